@@ -115,8 +115,8 @@ impl<T> Items<T> {
 
     /// One more item at the end. After want of memory the list is as it was.
     pub fn push(&mut self, item: T) -> Result<(), NoMemory>
-        where
-            T: Drop,
+    where
+        T: Drop,
         ensures ok { OnOk result (self.new ≡ self.old ++ item ∷ []) }
         ensures err { OnErr result (self.new ≡ self.old) }
     {

@@ -84,6 +84,16 @@ impl<T> Items<T> {
         }
     }
 
+    /// No items yet, with room for so many.
+    pub fn with_capacity(alloc: Global, capacity: usize) -> Result<Items<T>, NoMemory>
+        ensures { IfOk result (λ v. v ≡ []) }
+    {
+        match Vec::with_capacity(alloc, capacity) {
+            Ok(inner) => Ok(Items { inner }),
+            Err(_) => Err(NoMemory),
+        }
+    }
+
     /// The items of a `Vec`, which are not copied.
     pub fn from_vec(inner: Vec<T>) -> Items<T>
         ensures { result ≡ inner.items }

@@ -1,0 +1,16 @@
+-- Memory as a list of words, low bytes first.
+use Rattle.std.specs.Prelude.{ℕ, zero, suc, ◌+◌, ◌*◌, List, [], ◌∷◌, take, drop}
+use Rattle.n2_word.specs.Words.{number_of}
+
+-- word i of an image, with zeros behind its end
+abbrev pub image_word : List ℕ → ℕ → ℕ
+image_word bytes i = number_of (take 4 (drop (4 * i) bytes))
+
+-- n words of an image from word i on
+unfoldable pub image_words : List ℕ → ℕ → ℕ → List ℕ
+image_words bytes i zero = []
+image_words bytes i (suc n) = image_word bytes i ∷ image_words bytes (i + 1) n
+
+-- the plain board's memory: 64 KiB of zeros with an image laid over them from address 0 on
+abbrev pub memory_of : List ℕ → List ℕ
+memory_of bytes = image_words bytes 0 16384

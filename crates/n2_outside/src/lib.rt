@@ -5,7 +5,7 @@
 ghost use Rattle.std.specs.Prelude.{◌≡◌, ℕ, ◌≤◌, ◌<◌, ◌-◌, List, Option, take, length, MatchResult, OnOk, OnErr};
 ghost use Rattle.n2_outside.specs.Faults.{HasCause};
 ghost use Rattle.n2_outside.specs.Files.{IsFile};
-ghost use Rattle.n2_outside.specs.Bytes.{appended, IsPart, Puts};
+ghost use Rattle.n2_outside.specs.Bytes.{appended, IsPart, Puts, PutsFront};
 
 mod memory;
 mod system;
@@ -70,7 +70,7 @@ pub trait Sink {
 /// faults rose.
 pub fn put_all<S: Sink>(sink: &mut S, text: &[u8]) -> Result<(), Failed>
     ensures all { OnOk result (S.told sink.new ≡ appended (S.told sink.old) text.now) }
-    ensures front { OnErr result ((n : ℕ) × (S.told sink.new ≡ appended (S.told sink.old) (take n text.now))) }
+    ensures front { OnErr result (PutsFront (S.told sink.old) (S.told sink.new) text.now) }
     ensures cause { HasCause (S.faults sink.old) (S.faults sink.new) result }
 {
     let mut at = 0;

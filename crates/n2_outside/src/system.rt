@@ -9,6 +9,7 @@ use std::rt::Files;
 use std::{fs, io};
 
 /// The current folder of the process.
+#[derive(Drop)]
 pub struct DirFolder<'a, R> {
     rt: &'a R,
     faults: u64,
@@ -69,6 +70,7 @@ impl<'a, R: Files> Folder for DirFolder<'a, R> {
 }
 
 /// Standard output.
+#[derive(Drop)]
 pub struct StdSink<'a, R> {
     rt: &'a R,
     faults: u64,

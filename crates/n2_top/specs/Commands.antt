@@ -1,0 +1,43 @@
+-- The commands of the tool, by their words.
+use Rattle.std.specs.Prelude.{ℕ, List, [], ◌∷◌, Option, Some, None, ◌==◌, ◌||◌, if◌then◌else◌, codes}
+use Rattle.std.specs.Str.{bytes_eq}
+use Rattle.n2_text.specs.Fields.{numeral, at_most}
+
+-- what the words ask for
+pub data Command : Type 0 where
+  -- none of the table
+  Faulty : Command
+  -- one that is not built yet
+  Unbuilt : Command
+  -- a file on the plain board for so many acts
+  Plain : (file : List ℕ) (steps : ℕ) → Command
+
+abbrev pub not_zero : Option ℕ → Option ℕ
+not_zero None = None
+not_zero (Some n) = if n == 0 then None else Some n
+
+-- a number of acts, from 1 to 1,000,000
+abbrev pub steps_of : List ℕ → Option ℕ
+steps_of word = not_zero (at_most 1000000 (numeral word))
+
+abbrev pub plain_command : List ℕ → Option ℕ → Command
+plain_command file None = Faulty
+plain_command file (Some steps) = Plain file steps
+
+-- plain FILE STEPS; step BOARD ORDER, replay BOARD JOURNAL and flat BOARD JOURNAL are not built yet
+unfoldable pub three_words : List ℕ → List ℕ → List ℕ → Command
+three_words name first second =
+    if bytes_eq name (codes "plain") then plain_command first (steps_of second)
+    else (if bytes_eq name (codes "step") || bytes_eq name (codes "replay") || bytes_eq name (codes "flat") then Unbuilt
+    else Faulty)
+
+-- asm FILE, asmhal FILE, dis FILE and bench N are not built yet
+unfoldable pub two_words : List ℕ → Command
+two_words name =
+    if bytes_eq name (codes "asm") || bytes_eq name (codes "asmhal") || bytes_eq name (codes "dis") || bytes_eq name (codes "bench") then Unbuilt
+    else Faulty
+
+abbrev pub command_of : List (List ℕ) → Command
+command_of (name ∷ first ∷ second ∷ []) = three_words name first second
+command_of (name ∷ first ∷ []) = two_words name
+command_of words = Faulty

@@ -6,3 +6,6 @@ mod report;
 
 pub use machine::{PlainEnd, PlainFault, plain_run};
 pub use report::plain_text;
+
+#[cfg(test)]
+mod tests;

@@ -51,3 +51,6 @@ pub fn tool_top<F: Folder, S: Sink, L: Sink>(
         Err(AnswerFault::NoMemory) => 8,
     }
 }
+
+#[cfg(test)]
+mod tests;

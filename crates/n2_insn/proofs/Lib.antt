@@ -1,0 +1,4 @@
+pub mod Found
+pub mod Forms
+pub mod Again
+pub mod Fits

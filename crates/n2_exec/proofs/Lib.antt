@@ -1,0 +1,4 @@
+pub mod Proper
+pub mod Sizes
+pub mod Words
+pub mod Fetched

@@ -1,0 +1,17 @@
+use Rattle.n2_exec.proofs.Fetched.{outside, inside, word-proper, word-follows, word-words}
+use Rattle.n2_exec.proofs.laws.every_fetched_word.Goals as goal
+
+pub returns-clause-outside : goal.returns-clause-outside
+returns-clause-outside c = outside
+
+pub returns-clause-inside : goal.returns-clause-inside
+returns-clause-inside c = inside
+
+pub returns-clause-proper : goal.returns-clause-proper
+returns-clause-proper c = word-proper
+
+pub returns-clause-next : goal.returns-clause-next
+returns-clause-next c = word-follows
+
+pub returns-clause-words : goal.returns-clause-words
+returns-clause-words c = word-words

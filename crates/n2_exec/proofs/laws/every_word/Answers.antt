@@ -1,0 +1,18 @@
+use Rattle.n2_exec.proofs.Sizes.{small_extended}
+use Rattle.n2_exec.proofs.Words.{words, passed-words, loaded-words, raised-words}
+use Rattle.n2_exec.proofs.laws.every_word.Goals as goal
+
+pub returns-clause-effect : goal.returns-clause-effect
+returns-clause-effect c = words
+
+pub returns-clause-passed : goal.returns-clause-passed
+returns-clause-passed c = passed-words
+
+pub returns-clause-loaded : goal.returns-clause-loaded
+returns-clause-loaded c = loaded-words
+
+pub returns-clause-raised : goal.returns-clause-raised
+returns-clause-raised c = raised-words
+
+pub returns-clause-extended : goal.returns-clause-extended
+returns-clause-extended c = small_extended

@@ -1,0 +1,5 @@
+pub mod Registers
+pub mod Values
+pub mod Outcomes
+pub mod Effect
+pub mod Follow

@@ -1,0 +1,30 @@
+use Rattle.std.proofs.Common.{◌++◌, List, ℕ, ap, ◌∙◌, arith}
+use Rattle.n2_elf.proofs.Steps.{programs-more, programs-done, contents_len-next}
+use Rattle.n2_elf.proofs.writing.put_programs.Goals as goal
+
+pub program-requires : goal.program-requires
+program-requires c =
+    let next = contents_len-next c.args.segments.now c.loop-segment.segment-index c.segment-item.result c.loop-segment-test.true c.segment-item.is in
+    omega arith
+
+pub overflow_cast-offset-in-loop-segment : goal.overflow_cast-offset-in-loop-segment
+overflow_cast-offset-in-loop-segment c =
+    let next = contents_len-next c.args.segments.now c.loop-segment.segment-index c.segment-item.result c.loop-segment-test.true c.segment-item.is in
+    omega arith
+
+pub overflow_add-offset-in-loop-segment : goal.overflow_add-offset-in-loop-segment
+overflow_add-offset-in-loop-segment c =
+    let next = contents_len-next c.args.segments.now c.loop-segment.segment-index c.segment-item.result c.loop-segment-test.true c.segment-item.is in
+    omega arith
+
+pub loop-segment-preserved : goal.loop-segment-preserved
+loop-segment-preserved c =
+    let next = contents_len-next c.args.segments.now c.loop-segment.segment-index c.segment-item.result c.loop-segment-test.true c.segment-item.is in
+    record {
+      rest = rw c.len.ensures (programs-more c.loop-segment.offset c.loop-segment.out.items c.put_text.new.out.items _ c.args.segments.now c.loop-segment.segment-index c.segment-item.result c.loop-segment-test.true c.segment-item.is
+          (c.in_ok-put_text.ensures ∙ ap (λ (x : List ℕ). c.loop-segment.out.items ++ x) c.program.ensures) c.loop-segment.invariant.rest);
+      small = omega arith;
+    }
+
+pub returns : goal.returns
+returns c = programs-done c.loop-segment.offset c.loop-segment.out.items _ c.args.segments.now c.loop-segment.segment-index (omega arith) c.loop-segment.invariant.rest

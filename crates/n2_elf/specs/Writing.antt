@@ -1,0 +1,71 @@
+-- The file of an image: the header, the program headers, and the bytes of the segments in order,
+-- without gaps (ELF32 specification, "ELF Header" and "Program Header").
+use Rattle.std.specs.Prelude.{ℕ, ◌+◌, ◌*◌, ◌^◌, ◌<◌, ◌≤◌, List, [], ◌∷◌, ◌++◌, length, if◌then◌else◌}
+use Rattle.std.specs.List.{AllByRecursion}
+use Rattle.n2_elf.specs.Fields.{half_bytes, word_bytes}
+use Rattle.n2_elf.specs.Reading.{magic}
+use Rattle.n2_elf.specs.declared.image.Segment.{Segment}
+use Rattle.n2_elf.specs.declared.image.Image.{Image}
+
+-- e_ident: the magic number, EI_CLASS, EI_DATA and EI_VERSION, and nine zeros
+abbrev pub ident : List ℕ
+ident = magic ++ (1 ∷ 1 ∷ 1 ∷ 0 ∷ 0 ∷ 0 ∷ 0 ∷ 0 ∷ 0 ∷ 0 ∷ 0 ∷ 0 ∷ [])
+
+-- the header of an executable with an entry and so many program headers, which stand behind it:
+-- e_type, e_machine, e_version, e_entry, e_phoff, e_shoff, e_flags, e_ehsize, e_phentsize, e_phnum,
+-- e_shentsize, e_shnum and e_shstrndx
+unfoldable pub header_bytes : ℕ → ℕ → List ℕ
+header_bytes entry count =
+    ident ++ half_bytes 2 ++ half_bytes 113 ++ word_bytes 1 ++ word_bytes entry ++ word_bytes 52 ++ word_bytes 0 ++ word_bytes 0
+    ++ half_bytes 52 ++ half_bytes 32 ++ half_bytes count ++ half_bytes 0 ++ half_bytes 0 ++ half_bytes 0
+
+-- PF_R, and PF_X and PF_W where they are given
+abbrev pub flags_of : Segment → ℕ
+flags_of s = 4 + (if s.exec then 1 else 0) + (if s.write then 2 else 0)
+
+-- the program header of a segment whose bytes stand at an offset: p_type, p_offset, p_vaddr,
+-- p_paddr, p_filesz, p_memsz, p_flags and p_align
+unfoldable pub program_bytes : ℕ → Segment → List ℕ
+program_bytes offset s =
+    word_bytes 1 ++ word_bytes offset ++ word_bytes s.at ++ word_bytes s.at ++ word_bytes (length s.bytes) ++ word_bytes s.size ++ word_bytes (flags_of s) ++ word_bytes 1
+
+-- the program headers of segments whose bytes stand from an offset on
+unfoldable pub programs_bytes : ℕ → List Segment → List ℕ
+programs_bytes offset [] = []
+programs_bytes offset (s ∷ segments) = program_bytes offset s ++ programs_bytes (offset + length s.bytes) segments
+
+-- the bytes of segments
+unfoldable pub contents : List Segment → List ℕ
+contents [] = []
+contents (s ∷ segments) = s.bytes ++ contents segments
+
+-- how many bytes they are
+unfoldable pub contents_len : List Segment → ℕ
+contents_len [] = 0
+contents_len (s ∷ segments) = length s.bytes + contents_len segments
+
+-- the file
+unfoldable pub file_of : Image → List ℕ
+file_of image =
+    header_bytes image.entry (length image.segments) ++ programs_bytes (52 + 32 * length image.segments) image.segments ++ contents image.segments
+
+-- a segment has memory, and room for its bytes
+pub record HasRoom (s : Segment) : Type 0 where
+  pub some : 1 ≤ s.size
+  pub bytes : length s.bytes ≤ s.size
+
+-- an image that can be written
+pub record IsWritable (image : Image) : Type 0 where
+  pub some : 1 ≤ length image.segments
+  pub few : length image.segments ≤ 64
+  pub room : AllByRecursion HasRoom image.segments
+  pub small : contents_len image.segments < 2 ^ 31
+
+-- an image whose numbers are words, as in each that a program holds
+pub record HasWords (s : Segment) : Type 0 where
+  pub at : s.at < 2 ^ 32
+  pub size : s.size < 2 ^ 32
+
+pub record IsOfWords (image : Image) : Type 0 where
+  pub entry : image.entry < 2 ^ 32
+  pub segments : AllByRecursion HasWords image.segments

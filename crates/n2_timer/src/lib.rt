@@ -1,0 +1,224 @@
+//! The interval timer, which counts ticks down from its period
+//! (Embedded Peripherals IP User Guide, Interval Timer Core).
+#![tactic(auto)]
+
+ghost use Rattle.std.specs.Prelude.{◌≡◌, ◌<◌};
+
+use std::marker::Model;
+
+pub mod laws;
+
+/// The offset of the status register, in words.
+const STATUS: u32 = 0;
+
+/// The offset of the control register, in words.
+const CONTROL: u32 = 1;
+
+/// The offset of the low half of the period, in words.
+const PERIODL: u32 = 2;
+
+/// The offset of the high half of the period, in words.
+const PERIODH: u32 = 3;
+
+/// The offset of the low half of the snapshot, in words.
+const SNAPL: u32 = 4;
+
+/// A timer with its registers and its counter. Contracts see the fields of the registers and the counter.
+#[derive(Debug, Drop)]
+pub struct Timer {
+    to: bool,
+    run: bool,
+    ito: bool,
+    cont: bool,
+    period: u32,
+    snapshot: u32,
+    counter: u32,
+}
+
+impl Model for Timer {
+    ghost use Rattle.n2_timer.specs.Timer.{State};
+
+    ghost Value = { State };
+
+    ghost view = { λ timer. record {
+      to = timer.to;
+      run = timer.run;
+      ito = timer.ito;
+      cont = timer.cont;
+      period = timer.period;
+      snapshot = timer.snapshot;
+      counter = timer.counter;
+    } };
+}
+
+impl Timer {
+    ghost use Rattle.n2_timer.specs.Timer.{started, value_of, after_write, tick, ticks, is_on, low_half, high_half, with_control, with_period};
+
+    /// A timer that stands, with the period in its period registers and its counter, and all else 0
+    /// (Interval Timer Core, register map). The period is one less than the number of ticks of a round.
+    pub fn new(period: u32) -> Timer
+        ensures { result ≡ started period }
+    {
+        Timer {
+            to: false,
+            run: false,
+            ito: false,
+            cont: false,
+            period,
+            snapshot: 0,
+            counter: period,
+        }
+    }
+
+    /// The word of the register at an offset in words: status 0, control 1, periodl 2, periodh 3, snapl 4,
+    /// snaph 5 (Interval Timer Core, register map). START and STOP read 0.
+    pub fn read(&self, offset: u32) -> u32
+        requires { offset < 6 }
+        ensures { result ≡ value_of self.now offset }
+    {
+        match offset {
+            STATUS => u32::from(self.to) + 2 * u32::from(self.run),
+            CONTROL => u32::from(self.ito) + 2 * u32::from(self.cont),
+            PERIODL => self.period & 0xffff,
+            PERIODH => self.period >> 16,
+            SNAPL => self.snapshot & 0xffff,
+            _ => self.snapshot >> 16,
+        }
+    }
+
+    /// Writes a word to the register at an offset in words (Interval Timer Core, register map). Every
+    /// write takes effect: of status it clears TO, of control it keeps ITO and CONT and obeys STOP before
+    /// START, of a half of the period it stops the timer and loads the counter, and of a snap register it
+    /// copies the counter to the snapshot.
+    pub fn write(&mut self, offset: u32, value: u32)
+        requires { offset < 6 }
+        ensures { self.new ≡ after_write self.old offset value }
+    {
+        match offset {
+            STATUS => self.to = false,
+            CONTROL => self.set_control(value),
+            PERIODL => self.set_period((self.period >> 16) * 0x1_0000 + (value & 0xffff)),
+            PERIODH => self.set_period((value & 0xffff) * 0x1_0000 + (self.period & 0xffff)),
+            _ => self.snapshot = self.counter,
+        }
+    }
+
+    /// Gives the timer a number of ticks, one after another.
+    pub fn ticks(&mut self, n: u32)
+        ensures { self.new ≡ ticks n self.old }
+    {
+        for _i in 0..n {
+            self.tick();
+        }
+    }
+
+    /// Whether the interrupt line is on: TO and ITO are both set.
+    pub fn line(&self) -> bool
+        ensures { result ≡ is_on self.now }
+    {
+        self.to && self.ito
+    }
+
+    /// One tick.
+    fn tick(&mut self)
+        ensures { self.new ≡ tick self.old }
+    {
+        if !self.run {
+            return;
+        }
+        if self.counter == 0 {
+            self.to = true;
+            self.counter = self.period;
+            self.run = self.cont;
+        } else {
+            self.counter -= 1;
+        }
+    }
+
+    /// Takes a word for the control register: ITO, CONT, START and STOP.
+    fn set_control(&mut self, value: u32)
+        ensures { self.new ≡ with_control self.old value }
+    {
+        self.ito = value & 1 == 1;
+        self.cont = (value >> 1) & 1 == 1;
+        if (value >> 3) & 1 == 1 {
+            self.run = false;
+        } else if (value >> 2) & 1 == 1 {
+            self.run = true;
+        }
+    }
+
+    /// Takes a new period, which stops the timer.
+    fn set_period(&mut self, period: u32)
+        ensures { self.new ≡ with_period self.old period }
+    {
+        self.period = period;
+        self.counter = period;
+        self.run = false;
+    }
+}
+
+#[cfg(test)]
+mod tests {
+    use super::*;
+
+    fn crosses<T: Drop + Send + Sync>(value: T) {
+        let _ = value;
+    }
+
+    #[test]
+    fn nine_ticks_of_period_three(rt: HostRuntime) {
+        let mut timer = Timer::new(3);
+        timer.write(1, 6);
+        timer.ticks(9);
+        timer.write(4, 0);
+        assert_eq!(rt; (timer.read(0), timer.read(4), timer.read(5)), (3, 2, 0));
+        let mut single = Timer::new(3);
+        single.write(1, 6);
+        for _i in 0..9u32 {
+            single.ticks(1);
+        }
+        single.write(5, 0);
+        assert_eq!(rt; (single.read(0), single.read(4), single.read(5)), (3, 2, 0));
+        crosses(timer);
+    }
+
+    /// The words of the six registers.
+    fn registers(timer: &Timer) -> [u32; 6] {
+        [
+            timer.read(0),
+            timer.read(1),
+            timer.read(2),
+            timer.read(3),
+            timer.read(4),
+            timer.read(5),
+        ]
+    }
+
+    #[test]
+    fn each_register(rt: HostRuntime) {
+        let mut timer = Timer::new(0x0001_0002);
+        assert_eq!(rt; registers(&timer), [0, 0, 2, 1, 0, 0]);
+        for (offset, value, ticks, want, line) in [
+            (1, 4, 3, [2, 0, 2, 1, 0, 0], false),
+            (4, 9, 0, [2, 0, 2, 1, 0xffff, 0], false),
+            (1, 0xffff_fffd, 7, [0, 1, 2, 1, 0xffff, 0], false),
+            (2, 0xabcd_0001, 7, [0, 1, 1, 1, 0xffff, 0], false),
+            (5, 0, 0, [0, 1, 1, 1, 1, 1], false),
+            (3, 0xabcd_0000, 0, [0, 1, 1, 0, 1, 1], false),
+            (1, 5, 2, [1, 1, 1, 0, 1, 1], true),
+            (4, 0, 0, [1, 1, 1, 0, 1, 0], true),
+            (1, 2, 5, [1, 2, 1, 0, 1, 0], false),
+            (1, 7, 1, [3, 3, 1, 0, 1, 0], true),
+            (4, 0, 0, [3, 3, 1, 0, 0, 0], true),
+            (0, 0xffff_ffff, 0, [2, 3, 1, 0, 0, 0], false),
+            (1, 15, 0, [0, 3, 1, 0, 0, 0], false),
+        ] {
+            assert!(rt; offset < 6);
+            timer.write(offset, value);
+            timer.ticks(ticks);
+            assert_eq!(rt; registers(&timer), want, "writing {value:x} at {offset}");
+            assert_eq!(rt; timer.line(), line, "writing {value:x} at {offset}");
+        }
+    }
+}

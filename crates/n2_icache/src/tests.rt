@@ -1,0 +1,60 @@
+use super::*;
+use std::process::Abort;
+use std::test::Fail;
+
+const WORDS: [u32; 8] = [10, 21, 32, 43, 54, 65, 76, 87];
+
+// A size that a proof does not see.
+fn unseen(bytes: u32) -> u32 {
+    bytes
+}
+
+fn opened_at(rt: &impl Abort, alloc: Global, bytes: u32) -> Result<ICache, NoMemory> {
+    assert!(rt; bytes.is_power_of_two() && 512 <= bytes && bytes <= 65536);
+    ICache::open(alloc, bytes)
+}
+
+fn empty(rt: &impl Abort, cache: &mut ICache, set: u32) {
+    assert!(rt; set < cache.sets());
+    cache.drop_set(set);
+}
+
+// What threads may share and move.
+fn crosses<T: Send + Sync>(_value: &T) {}
+
+#[test]
+fn keeps_one_line_a_set(rt: HostRuntime) -> Result<(), Fail> {
+    let mut cache = opened_at(&rt, rt.alloc(), unseen(512))?;
+    crosses(&cache);
+    assert_eq!(rt; cache.sets(), 16);
+    assert_eq!(rt; cache.find(0x60), None);
+    cache.fill(3, &[7; 8]);
+    assert_eq!(rt; cache.find(0x60), Some(7));
+    assert_eq!(rt; cache.find(0x260), None);
+    assert_eq!(rt; cache.find(0x80), None);
+    cache.fill(19, &WORDS);
+    assert_eq!(rt; cache.find(0x264), Some(21));
+    assert_eq!(rt; cache.find(0x64), None);
+    empty(&rt, &mut cache, 4);
+    assert_eq!(rt; cache.find(0x264), Some(21));
+    empty(&rt, &mut cache, 3);
+    assert_eq!(rt; cache.find(0x264), None);
+    Ok(())
+}
+
+#[test]
+fn finds_every_word(rt: HostRuntime) -> Result<(), Fail> {
+    // The line of the highest number, in the smallest cache and in the largest.
+    for (bytes, sets) in [(512, 16), (65536, 2048)] {
+        let mut cache = opened_at(&rt, rt.alloc(), unseen(bytes))?;
+        assert_eq!(rt; cache.sets(), sets);
+        cache.fill(0x3ff_ffff, &WORDS);
+        for (place, word) in WORDS.iter().enumerate() {
+            let address = 0x7fff_ffe0 + 4 * (place as u32 & 7);
+            assert_eq!(rt; cache.find(address), Some(*word));
+            assert_eq!(rt; cache.find(0x8000_0000 + address), Some(*word));
+            assert_eq!(rt; cache.find(address & 0x1fff_ffff), None);
+        }
+    }
+    Ok(())
+}

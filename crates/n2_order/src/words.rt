@@ -1,0 +1,90 @@
+//! Order words.
+
+ghost use Rattle.std.specs.Prelude.{◌≡◌, ◌+◌, ◌-◌, ◌*◌, ◌^◌, ◌<◌, IfSome, option_map};
+ghost use Rattle.n2_order.specs.Orders.{behind as behind_key};
+ghost use Rattle.n2_text.specs.Fields.{numeral, digits_after, at_most};
+
+use n2_text::numeral_up_to;
+
+/// The order in which actors take their turns, as an order word names it.
+#[derive(Clone, Copy, Debug, PartialEq, Eq)]
+pub enum Order<'a> {
+    /// Rounds in a cycle, in which each actor has this many turns.
+    Rounds(u32),
+    /// The words of the generator with this seed.
+    Seed(u64),
+    /// The actors that the file with this name lists.
+    List(&'a str),
+}
+
+impl<'a> Order<'a> {
+    ghost use Rattle.n2_order.specs.Orders.{asked, order_of, HasTurns};
+
+    /// The order of a word: `rr:Q` with Q from 1 to 1,000,000, `seed:N` with N below 2^64, or
+    /// `list:FILE` with a name that is not empty; None exactly for every other word. Numbers are
+    /// decimal digits without a sign or a leading zero.
+    #[tactic(auto, unfolding(crate::specs::Orders::order_of))]
+    pub fn read(word: &'a str) -> Option<Order<'a>>
+        ensures value { option_map asked result ≡ order_of word.now }
+        ensures turns { IfSome result (λ order. HasTurns (asked order)) }
+    {
+        if let Some(digits) = behind("rr:", word) {
+            let turns = numeral_up_to(1_000_000, digits.as_bytes())?;
+            return if turns == 0 {
+                None
+            } else {
+                Some(Order::Rounds(turns as u32))
+            };
+        }
+        if let Some(digits) = behind("seed:", word) {
+            return Some(Order::Seed(numeral_64(digits.as_bytes())?));
+        }
+        let name = behind("list:", word)?;
+        if name.is_empty() {
+            None
+        } else {
+            Some(Order::List(name))
+        }
+    }
+}
+
+/// What stands behind a key, where a text begins with it.
+fn behind<'a>(key: &str, text: &'a str) -> Option<&'a str>
+    ensures { option_map (λ x. x.now) result ≡ behind_key key.now text.now }
+{
+    text.strip_prefix(key)
+}
+
+/// The number below 2^64 that a text is.
+fn numeral_64(text: &[u8]) -> Option<u64>
+    ensures { result ≡ at_most (2 ^ 64 - 1) (numeral text.now) }
+{
+    match text {
+        [] => None,
+        [b'0'] => Some(0),
+        [b'0', ..] => None,
+        _ => digits_64(text),
+    }
+}
+
+/// The number below 2^64 that digits are.
+fn digits_64(text: &[u8]) -> Option<u64>
+    ensures { result ≡ at_most (2 ^ 64 - 1) (digits_after 0 text.now) }
+{
+    let mut n = 0u64;
+    for c in text {
+        if !c.is_ascii_digit() {
+            return None;
+        }
+        n = with_digit(n, *c - 48)?;
+    }
+    Some(n)
+}
+
+/// A number with one more digit, where it is below 2^64.
+fn with_digit(n: u64, digit: u8) -> Option<u64>
+    requires { digit < 10 }
+    ensures { result ≡ at_most (2 ^ 64 - 1) (Some (10 * n + digit)) }
+{
+    n.checked_mul(10)?.checked_add(u64::from(digit))
+}

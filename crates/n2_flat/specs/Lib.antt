@@ -1,5 +1,4 @@
-pub mod Registers
 pub mod Memory
-pub mod Table
+pub mod PlainBoard
 pub mod Machine
 pub mod Report

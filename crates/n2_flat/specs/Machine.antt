@@ -1,80 +1,147 @@
--- The flat machine on the plain board, cut to four instructions.
-use Rattle.std.specs.Prelude.{◌≡◌, ℕ, zero, suc, ◌+◌, ◌*◌, ◌/◌, ◌%◌, ◌^◌, List, [], ◌∷◌, ◌++◌, length, replicate, slice_index, Bool, true, false, Option, Some, None, Result, Ok, Err, nat_lt, nat_le, ◌==◌, if◌then◌else◌, bit_or}
-use Rattle.n2_word.specs.Words.{signed_half}
+-- The flat machine on the plain board: one memory, one core, and the bytes that its UART took.
+use Rattle.std.specs.Prelude.{◌≡◌, ℕ, zero, suc, ◌*◌, ◌/◌, ◌%◌, ◌^◌, List, [], ◌∷◌, ◌++◌, length, replicate, slice_index, Bool, true, false, Option, Some, None, Result, Ok, Err, nat_lt, if◌then◌else◌}
+use Rattle.n2_word.specs.declared.Width.{Width}
+use Rattle.n2_word.specs.Lines.{line, without_bypass}
+use Rattle.n2_exec.specs.declared.Regs.{Regs}
+use Rattle.n2_exec.specs.declared.Outcome.{Outcome}
+use Rattle.n2_exec.specs.declared.Outcome.TheVariants as Outcome
+use Rattle.n2_exec.specs.Registers.{passed_regs, loaded_regs, raised, interrupted, is_waiting}
+use Rattle.n2_exec.specs.Outcomes.{loaded_value}
+use Rattle.n2_exec.specs.Effect.{effect_of_word}
+use Rattle.n2_flat.specs.declared.stops.Stop.{Stop}
+use Rattle.n2_flat.specs.declared.stops.Stop.TheVariants.{Broke, Refused, Stray}
+use Rattle.n2_flat.specs.declared.stops.Kind.TheVariants.{Separate}
+use Rattle.n2_flat.specs.declared.plain_board.Place.{Place}
+use Rattle.n2_flat.specs.declared.plain_board.Place.TheVariants.{Memory, UartData, UartControl, Nothing}
+use Rattle.n2_flat.specs.declared.plain_board.Flaw.{Flaw}
+use Rattle.n2_flat.specs.declared.plain_board.Flaw.TheVariants.{Strays, Separates}
 use Rattle.n2_flat.specs.declared.machine.PlainEnd.{PlainEnd}
 use Rattle.n2_flat.specs.declared.machine.PlainFault.{PlainFault}
 use Rattle.n2_flat.specs.declared.machine.PlainFault.TheVariants.{Outside, Unbuilt, NoMemory}
-use Rattle.n2_flat.specs.Registers.{reg, set_reg}
-use Rattle.n2_flat.specs.Memory.{memory_of}
-use Rattle.n2_flat.specs.Table.{Insn, Addi, Orhi, Stwio, Break, insn_of}
+use Rattle.n2_flat.specs.Memory.{memory_of, read_at, written_at}
+use Rattle.n2_flat.specs.PlainBoard.{place_of, bypasses, fetch_flaw, access_flaw}
 
--- the core before its first instruction
+-- the machine: its memory, and where its core stands
+pub record Flat : Type 0 where
+  pub memory : List ℕ
+  pub end : PlainEnd
+
+abbrev pub flat : List ℕ → PlainEnd → Flat
+flat memory end = record { memory = memory; end = end }
+
+-- the registers before the first instruction: cpuid 0, exceptions at 00000020, all else 0
+abbrev pub started_regs : Regs
+started_regs = record { pc = 0; gpr = replicate 32 0; status = 0; estatus = 0; bstatus = 0; ienable = 0; latch = 0; cpuid = 0; vector = 32 }
+
 abbrev pub started : PlainEnd
-started = record { regs = replicate 32 0; pc = 0; broke = false; sent = [] }
+started = record { regs = started_regs; stop = None; sent = [] }
 
--- code lies below 00008000, and the UART's data register at 00010000 takes bytes while its write queue of 64 has room
-abbrev pub is_code : ℕ → Bool
-is_code pc = nat_lt pc 32768
+-- with other registers
+abbrev pub moved : Flat → Regs → Flat
+moved m regs = flat m.memory (record m.end { regs = regs })
 
-abbrev pub is_uart_data : ℕ → Bool
-is_uart_data address = address == 65536
+-- the core stops, and nothing else changes
+abbrev pub stopped : Flat → Stop → Flat
+stopped m stop = flat m.memory (record m.end { stop = Some stop })
 
+-- the stop for an access with a flaw, by the instruction's word and the address that it gives
+abbrev pub stop_for : Flaw → ℕ → ℕ → ℕ → Stop
+stop_for Strays pc word address = Stray address
+stop_for Separates pc word address = Refused (record { kind = Separate; pc = pc; insn = word; address = address; line = line address })
+
+-- an access that is not built yet
+abbrev pub unbuilt : Flat → ℕ → Result Flat PlainFault
+unbuilt m word = Err (Unbuilt m.end.regs.pc word)
+
+-- a load, by what stands at its address; where nothing does it was refused before
+abbrev pub load_from : Place → Flat → ℕ → ℕ → Width → Bool → ℕ → Result Flat PlainFault
+load_from Memory m word address width signed to =
+    Ok (moved m (loaded_regs m.end.regs to (loaded_value width signed (read_at m.memory (without_bypass address) width))))
+load_from UartData m word address width signed to = unbuilt m word
+load_from UartControl m word address width signed to = unbuilt m word
+load_from Nothing m word address width signed to = unbuilt m word
+
+-- the UART's write queue takes a byte while it has fewer than 64
 abbrev pub queued : List ℕ → ℕ → List ℕ
 queued sent byte = if nat_lt (length sent) 64 then sent ++ byte ∷ [] else sent
 
--- the next instruction
-abbrev pub passed : PlainEnd → PlainEnd
-passed s = record s { pc = (s.pc + 4) % 2 ^ 32 }
-
--- a register is written, and the next instruction
-abbrev pub written : PlainEnd → ℕ → ℕ → PlainEnd
-written s n value = record s { regs = set_reg s.regs n value; pc = (s.pc + 4) % 2 ^ 32 }
-
--- a byte is put in the write queue, and the next instruction
 abbrev pub sent_by : PlainEnd → ℕ → PlainEnd
-sent_by s byte = record s { sent = queued s.sent byte; pc = (s.pc + 4) % 2 ^ 32 }
+sent_by end value = record end { regs = passed_regs end.regs; sent = queued end.sent (value % 2 ^ 8) }
 
-abbrev pub unbuilt : PlainEnd → ℕ → Result PlainEnd PlainFault
-unbuilt s word = Err (Unbuilt s.pc word)
+abbrev pub stored_by : PlainEnd → PlainEnd
+stored_by end = record end { regs = passed_regs end.regs }
 
--- the address of an access
-abbrev pub address_of : PlainEnd → ℕ → ℕ → ℕ
-address_of s a imm = (reg s.regs a + signed_half imm) % 2 ^ 32
+-- a store, by what stands at its address; where nothing does it was refused before
+abbrev pub store_to : Place → Flat → ℕ → ℕ → Width → ℕ → Result Flat PlainFault
+store_to Memory m word address width value = Ok (flat (written_at m.memory (without_bypass address) width value) (stored_by m.end))
+store_to UartData m word address width value = Ok (flat m.memory (sent_by m.end value))
+store_to UartControl m word address width value = unbuilt m word
+store_to Nothing m word address width value = unbuilt m word
 
--- what an instruction does
-abbrev pub effect : PlainEnd → ℕ → Insn → Result PlainEnd PlainFault
-effect s word (Addi a b imm) = Ok (written s b ((reg s.regs a + signed_half imm) % 2 ^ 32))
-effect s word (Orhi a b imm) = Ok (written s b (bit_or (reg s.regs a) (imm * 2 ^ 16)))
-effect s word (Stwio a b imm) = if is_uart_data (address_of s a imm) then Ok (sent_by s (reg s.regs b % 2 ^ 8)) else unbuilt s word
-effect s word Break = Ok (record s { broke = true })
+-- what is wrong with a load or store by its address
+abbrev pub flaw_at : ℕ → Width → Bool → Bool → Option Flaw
+flaw_at address width store io =
+    access_flaw (place_of (without_bypass address)) (line address) width store (bypasses address io)
 
-abbrev pub decoded : PlainEnd → ℕ → Option Insn → Result PlainEnd PlainFault
-decoded s word None = unbuilt s word
-decoded s word (Some insn) = effect s word insn
+abbrev pub judged_load : Option Flaw → Flat → ℕ → ℕ → Width → Bool → ℕ → Result Flat PlainFault
+judged_load (Some flaw) m word address width signed to = Ok (stopped m (stop_for flaw m.end.regs.pc word address))
+judged_load None m word address width signed to = load_from (place_of (without_bypass address)) m word address width signed to
 
-abbrev pub performed : PlainEnd → ℕ → Result PlainEnd PlainFault
-performed s word = decoded s word (insn_of word)
+abbrev pub judged_store : Option Flaw → Flat → ℕ → ℕ → Width → ℕ → Result Flat PlainFault
+judged_store (Some flaw) m word address width value = Ok (stopped m (stop_for flaw m.end.regs.pc word address))
+judged_store None m word address width value = store_to (place_of (without_bypass address)) m word address width value
 
--- one act of the core: a core that broke stays as it is
-unfoldable pub retired : List ℕ → PlainEnd → Result PlainEnd PlainFault
-retired memory s =
-    if s.broke then Ok s
-    else (if is_code s.pc then performed s (slice_index memory (s.pc / 4)) else unbuilt s 0)
+-- what an instruction comes to; operations on cache lines find no cache here
+abbrev pub performed : Flat → ℕ → Outcome → Result Flat PlainFault
+performed m word (Outcome.Next regs) = Ok (moved m regs)
+performed m word (Outcome.Load address width signed io to) = judged_load (flaw_at address width false io) m word address width signed to
+performed m word (Outcome.Store address width value io) = judged_store (flaw_at address width true io) m word address width value
+performed m word (Outcome.LineOp op address) = Ok (moved m (passed_regs m.end.regs))
+performed m word (Outcome.CodeOp address) = Ok (moved m (passed_regs m.end.regs))
+performed m word (Outcome.Raise cause) = Ok (moved m (raised m.end.regs))
+performed m word Outcome.Broke = Ok (stopped m Broke)
 
-abbrev pub and_then : Result PlainEnd PlainFault → (PlainEnd → Result PlainEnd PlainFault) → Result PlainEnd PlainFault
-and_then (Ok s) f = f s
+-- a fetch is judged, and then the word at the program counter runs
+abbrev pub fetched : Option Flaw → Flat → Result Flat PlainFault
+fetched (Some flaw) m = Ok (stopped m (stop_for flaw m.end.regs.pc 0 m.end.regs.pc))
+fetched None m =
+    performed m (slice_index m.memory (m.end.regs.pc / 4)) (effect_of_word m.end.regs (slice_index m.memory (m.end.regs.pc / 4)))
+
+-- a waiting interrupt is taken; else the next instruction runs
+abbrev pub running : Flat → Result Flat PlainFault
+running m =
+    if is_waiting m.end.regs then Ok (moved m (interrupted m.end.regs))
+    else fetched (fetch_flaw m.end.regs.pc) m
+
+abbrev pub retired_as : Option Stop → Flat → Result Flat PlainFault
+retired_as (Some stop) m = Ok m
+retired_as None m = running m
+
+-- one act of the core; a core that stopped stays as it is
+unfoldable pub retired : Flat → Result Flat PlainFault
+retired m = retired_as m.end.stop m
+
+abbrev pub and_then : Result Flat PlainFault → (Flat → Result Flat PlainFault) → Result Flat PlainFault
+and_then (Ok m) f = f m
 and_then (Err fault) f = Err fault
 
 -- so many acts, one after another
-unfoldable pub retired_times : List ℕ → ℕ → PlainEnd → Result PlainEnd PlainFault
-retired_times memory zero s = Ok s
-retired_times memory (suc n) s = and_then (retired memory s) (retired_times memory n)
+unfoldable pub retired_times : ℕ → Flat → Result Flat PlainFault
+retired_times zero m = Ok m
+retired_times (suc n) m = and_then (retired m) (retired_times n)
+
+-- where the core stands at the end
+abbrev pub end_of : Result Flat PlainFault → Result PlainEnd PlainFault
+end_of (Ok m) = Ok m.end
+end_of (Err fault) = Err fault
 
 -- an image on the plain board after so many acts
 unfoldable pub plain : List ℕ → ℕ → Result PlainEnd PlainFault
-plain bytes steps = if nat_lt 65536 (length bytes) then Err Outside else retired_times (memory_of bytes) steps started
+plain bytes steps =
+    if nat_lt 65536 (length bytes) then Err Outside
+    else end_of (retired_times steps (flat (memory_of bytes) started))
 
--- an answer is this one, unless it is want of memory
-abbrev pub AnswersTo : Result PlainEnd PlainFault → PlainFault → Type 0
+-- a fault is the one of this answer, unless it is want of memory
+abbrev pub AnswersTo : {A : Type 0} → Result A PlainFault → PlainFault → Type 0
 AnswersTo answer NoMemory = Unit {0}
 AnswersTo answer fault = answer ≡ Err fault

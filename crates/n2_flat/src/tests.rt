@@ -4,6 +4,8 @@ use std::test::Fail;
 
 const BREAK: u32 = 0x003d_a03a;
 
+const NOP: u32 = 0x0001_883a;
+
 // The bytes of some words, the lowest first.
 fn image(alloc: Global, words: &[u32]) -> Result<Vec<u8>, AllocError> {
     let mut bytes = Vec::new(alloc);
@@ -22,7 +24,6 @@ fn unseen(n: usize) -> usize {
 fn adds_and_breaks(rt: HostRuntime) -> Result<(), Fail> {
     let alloc = rt.alloc();
     let end = plain_run(alloc, &image(alloc, &[0x0080_0144, BREAK])?, 10)?;
-    assert!(rt; end.broke);
     let want = "nios2 flat 1
 core 0 broke 00000004
 r0 00000000 00000000 00000005 00000000 00000000 00000000 00000000 00000000
@@ -34,11 +35,17 @@ uart u0 0
 verdict certified
 ";
     assert_eq!(rt; plain_text(alloc, &end)?.as_slice(), want.as_bytes());
+    assert_eq!(rt; status(&end.stop), 0);
+    let empty = plain_run(alloc, &[], 3)?;
+    assert_eq!(rt;
+        (empty.regs.pc, empty.regs.gpr[31], status(&empty.stop)),
+        (0, 4, 2)
+    );
     Ok(())
 }
 
 #[test]
-fn sends_two_bytes(rt: HostRuntime) -> Result<(), Fail> {
+fn sends_bytes_up_to_the_depth(rt: HostRuntime) -> Result<(), Fail> {
     let alloc = rt.alloc();
     let words = [
         0x0200_0074,
@@ -49,80 +56,209 @@ fn sends_two_bytes(rt: HostRuntime) -> Result<(), Fail> {
         BREAK,
     ];
     let end = plain_run(alloc, &image(alloc, &words)?, 100)?;
-    assert_eq!(rt;
-        (end.broke, end.pc, end.regs[2], end.regs[8]),
-        (true, 0x14, 0x69, 0x1_0000)
-    );
+    assert_eq!(rt; end.stop, Some(Stop::Broke));
     assert_eq!(rt; end.sent.as_slice(), b"hi".as_slice());
     let running = plain_run(alloc, &image(alloc, &words)?, 3)?;
-    assert_eq!(rt; (running.broke, running.pc), (false, 0xc));
+    assert_eq!(rt; (running.stop, running.regs.pc), (None, 0xc));
     assert_eq!(rt; running.sent.as_slice(), b"h".as_slice());
+    // orhi r8, r0, 1; and again: stwio r8, 0(r8); br to it
+    let endless = plain_run(
+        alloc,
+        &image(alloc, &[0x0200_0074, 0x4200_0035, 0x003f_fe06])?,
+        200,
+    )?;
+    assert_eq!(rt; endless.sent.len(), 64);
     Ok(())
 }
 
 #[test]
-fn extends_signs_and_drops_what_r0_is_given(rt: HostRuntime) -> Result<(), Fail> {
+fn loads_and_stores_each_width_and_lane(rt: HostRuntime) -> Result<(), Fail> {
     let alloc = rt.alloc();
-    // addi r2, r0, -1; addi r0, r0, 5; addi r3, r0, 1; addi r4, r2, 2
-    let words = [0x00bf_ffc4, 0x0000_0144, 0x00c0_0044, 0x1100_0084, BREAK];
-    let end = plain_run(alloc, &image(alloc, &words)?, 5)?;
+    // r8 is 00008000, where the word 89abcdef is stored: it is loaded by ldbu, ldb, ldhu and ldh at
+    // each lane into r10 to r21. Then the byte 77 is stored at lane 1, and the half 1234 at lane 2.
+    let words = [
+        0x0220_0014,
+        0x0262_6af4,
+        0x4a73_7bd4,
+        0x4240_0015,
+        0x4280_0003,
+        0x42c0_0043,
+        0x4300_0083,
+        0x4340_00c3,
+        0x4380_0007,
+        0x43c0_0047,
+        0x4400_0087,
+        0x4440_00c7,
+        0x4480_000b,
+        0x44c0_008b,
+        0x4500_000f,
+        0x4540_008f,
+        0x0080_5dc4,
+        0x4080_0045,
+        0x00c4_8d14,
+        0x40c0_008d,
+        0x4580_0017,
+        0x4080_01c5,
+        0x4080_0105,
+        0x45c0_0117,
+        BREAK,
+    ];
+    let end = plain_run(alloc, &image(alloc, &words)?, 100)?;
+    assert_eq!(rt; end.stop, Some(Stop::Broke));
+    let want = [
+        0xef,
+        0xcd,
+        0xab,
+        0x89,
+        0xffff_ffef,
+        0xffff_ffcd,
+        0xffff_ffab,
+        0xffff_ff89,
+        0xcdef,
+        0x89ab,
+        0xffff_cdef,
+        0xffff_89ab,
+        0x1234_77ef,
+        0x7700_0077,
+    ];
+    assert_eq!(rt; &end.regs.gpr[10..24], want.as_slice());
+    Ok(())
+}
+
+#[test]
+fn raises_and_passes_cache_operations(rt: HostRuntime) -> Result<(), Fail> {
+    let alloc = rt.alloc();
+    // a word is loaded at 00008002
+    let misaligned = [
+        0x0220_0014,
+        0x4080_0097,
+        NOP,
+        NOP,
+        NOP,
+        NOP,
+        NOP,
+        NOP,
+        0x0140_0144,
+        BREAK,
+    ];
+    let end = plain_run(alloc, &image(alloc, &misaligned)?, 100)?;
     assert_eq!(rt;
-        (end.regs[0], end.regs[2], end.regs[3], end.regs[4]),
-        (0, 0xffff_ffff, 1, 1)
+        (end.regs.pc, end.regs.gpr[29], end.regs.gpr[5]),
+        (0x24, 8, 5)
+    );
+    // the first word is a custom instruction
+    let illegal = [0x0000_0032, NOP, NOP, NOP, NOP, NOP, NOP, NOP, BREAK];
+    let end = plain_run(alloc, &image(alloc, &illegal)?, 100)?;
+    assert_eq!(rt;
+        (end.regs.pc, end.regs.gpr[29], end.stop),
+        (0x20, 4, Some(Stop::Broke))
+    );
+    // flushd, initd, flushda, initda, flushi, initi
+    let lines = [
+        0x0020_003b,
+        0x0000_0033,
+        0x0000_001b,
+        0x0000_0013,
+        0x1000_603a,
+        0x1001_483a,
+        BREAK,
+    ];
+    let end = plain_run(alloc, &image(alloc, &lines)?, 100)?;
+    assert_eq!(rt; (end.regs.pc, end.stop), (0x18, Some(Stop::Broke)));
+    // code is read past the cache
+    let end = plain_run(alloc, &image(alloc, &[0x0080_0037, BREAK])?, 100)?;
+    assert_eq!(rt;
+        (end.regs.gpr[2], end.stop),
+        (0x0080_0037, Some(Stop::Broke))
     );
     Ok(())
 }
 
+fn separate(pc: u32, insn: u32, address: u32, line: u32) -> Stop {
+    Stop::Refused(Refusal {
+        kind: Kind::Separate,
+        pc,
+        insn,
+        address,
+        line,
+    })
+}
+
 #[test]
-fn loses_bytes_past_the_queue(rt: HostRuntime) -> Result<(), Fail> {
+fn stops_at_what_the_board_refuses(rt: HostRuntime) -> Result<(), Fail> {
     let alloc = rt.alloc();
-    let mut words = Vec::new(alloc);
-    words.push(0x0200_0074)?;
-    for _ in 0..70 {
-        words.push(0x4200_0035)?;
+    let cases: [(&[u32], Stop); 9] = [
+        // a store into code
+        (&[0x0080_1015], separate(0, 0x0080_1015, 0x40, 2)),
+        // a bypassing load of an own line, by the instruction and by bit 31
+        (
+            &[0x0220_0014, 0x4080_0037],
+            separate(4, 0x4080_0037, 0x8000, 0x400),
+        ),
+        (
+            &[0x0220_0034, 0x4220_0014, 0x4080_0017],
+            separate(8, 0x4080_0017, 0x8000_8000, 0x400),
+        ),
+        // a load past everything, and narrow accesses of the UART
+        (&[0x0200_00b4, 0x4080_0017], Stop::Stray(0x2_0000)),
+        (&[0x0200_0074, 0x4080_0025], Stop::Stray(0x1_0000)),
+        (&[0x0200_0074, 0x4080_0023], Stop::Stray(0x1_0000)),
+        // jumps off the memory, to bit 31 and to data
+        (&[0x0200_0074, 0x4000_683a], Stop::Stray(0x1_0000)),
+        (&[0x0220_0034, 0x4000_683a], Stop::Stray(0x8000_0000)),
+        (
+            &[0x0220_0014, 0x4000_683a],
+            separate(0x8000, 0, 0x8000, 0x400),
+        ),
+    ];
+    for (words, stop) in cases {
+        let end = plain_run(alloc, &image(alloc, words)?, 9)?;
+        assert_eq!(rt; end.stop, Some(stop), "at {stop:?}");
+        assert_eq!(rt; status(&end.stop), 1);
     }
-    words.push(BREAK)?;
-    let end = plain_run(alloc, &image(alloc, &words)?, 1000)?;
-    assert_eq!(rt; (end.broke, end.sent.len()), (true, 64));
+    let end = plain_run(alloc, &image(alloc, &[0x0220_0014, 0x4080_0037])?, 9)?;
+    let text = plain_text(alloc, &end)?;
+    assert!(rt;
+        text.starts_with(
+            b"nios2 flat 1\ncore 0 refused separate pc 00000004 insn 40800037 address 00008000 line 00008000\n"
+        )
+    );
+    assert!(rt; text.ends_with(b"verdict refused\n"));
+    let end = plain_run(alloc, &image(alloc, &[0x0200_00b4, 0x4080_0017])?, 9)?;
+    assert!(rt;
+        plain_text(alloc, &end)?.starts_with(b"nios2 flat 1\ncore 0 stray 00000004 00020000\n")
+    );
     Ok(())
 }
 
 #[test]
 fn names_what_is_not_built(rt: HostRuntime) -> Result<(), Fail> {
     let alloc = rt.alloc();
-    let cases: [(&[u32], u32, u32, u32); 4] = [
-        (&[0], 1, 0, 0),
-        (&[0x0080_0144, 0x0080_0117], 2, 4, 0x0080_0117),
-        (&[0x4080_0035], 1, 0, 0x4080_0035),
-        (&[0x0200_0074, 0x4080_0135], 2, 4, 0x4080_0135),
-    ];
-    for (words, steps, pc, word) in cases {
-        let fault = plain_run(alloc, &image(alloc, words)?, steps).err();
-        assert_eq!(rt; fault, Some(PlainFault::Unbuilt { pc, word }), "at {pc}");
+    // ldwio r2, 0(r8) and stwio r2, 4(r8) of the UART
+    for word in [0x4080_0037, 0x4080_0135] {
+        let bytes = image(alloc, &[0x0200_0074, word])?;
+        assert_eq!(rt;
+            plain_run(alloc, &bytes, 2).err(),
+            Some(PlainFault::Unbuilt { pc: 4, word })
+        );
+        assert!(rt; plain_run(alloc, &bytes, 1).is_ok());
     }
-    assert!(rt; plain_run(alloc, &image(alloc, &[0x0080_0144, 0])?, 1).is_ok());
     Ok(())
 }
 
 #[test]
-fn runs_off_the_code_and_the_memory(rt: HostRuntime) -> Result<(), Fail> {
+fn runs_a_million_acts(rt: HostRuntime) -> Result<(), Fail> {
     let alloc = rt.alloc();
-    // 0x2000 words of addi r2, r2, 1 fill the code.
-    let mut words = Vec::new(alloc);
-    for _ in 0..unseen(0x2000) {
-        words.push(0x1080_0044)?;
-    }
-    let off = PlainFault::Unbuilt {
-        pc: 0x8000,
-        word: 0,
-    };
-    let bytes = image(alloc, &words)?;
-    assert_eq!(rt; plain_run(alloc, &bytes, 0x2000)?.regs[2], 0x2000);
-    assert_eq!(rt; plain_run(alloc, &bytes, 0x2001).err(), Some(off));
+    // addi r2, r2, 1; br to it
+    let end = plain_run(
+        alloc,
+        &image(alloc, &[0x1080_0044, 0x003f_fe06])?,
+        1_000_000,
+    )?;
+    assert_eq!(rt; (end.regs.gpr[2], end.stop), (500_000, None));
     let long = vec![in alloc; 0u8; unseen(0x1_0001)]?;
     assert_eq!(rt; plain_run(alloc, &long, 1).err(), Some(PlainFault::Outside));
     assert!(rt; 0 < long.len());
-    let first = PlainFault::Unbuilt { pc: 0, word: 0 };
-    assert_eq!(rt; plain_run(alloc, &long[1..], 1).err(), Some(first));
+    assert!(rt; plain_run(alloc, &long[1..], 1).is_ok());
     Ok(())
 }

@@ -1,12 +1,12 @@
 -- What the tool answers: a status and a text, over files by their names.
-use Rattle.std.specs.Prelude.{ℕ, List, [], ◌∷◌, length, take, Option, Some, None, Bool, true, false, Result, Ok, Err, nat_lt, if◌then◌else◌, ◌||◌, codes}
+use Rattle.std.specs.Prelude.{ℕ, List, [], ◌∷◌, length, take, Option, Some, None, Bool, Result, Ok, Err, nat_lt, if◌then◌else◌, ◌||◌, codes}
 use Rattle.std.specs.Str.{bytes_eq}
 use Rattle.n2_outside.specs.Files.{file_at}
 use Rattle.n2_flat.specs.declared.machine.PlainEnd.{PlainEnd}
 use Rattle.n2_flat.specs.declared.machine.PlainFault.{PlainFault}
 use Rattle.n2_flat.specs.declared.machine.PlainFault.TheVariants.{Outside, Unbuilt as UnbuiltWord, NoMemory}
 use Rattle.n2_flat.specs.Machine.{plain}
-use Rattle.n2_flat.specs.Report.{flat_text}
+use Rattle.n2_flat.specs.Report.{flat_text, status_of}
 use Rattle.n2_top.specs.declared.answers.Answer.{Answer}
 use Rattle.n2_top.specs.Commands.{Command, Faulty, Unbuilt, Plain, command_of}
 use Rattle.n2_top.specs.Rows.{row, usage, unbuilt_word}
@@ -18,14 +18,9 @@ refused status text = record { status = status; text = row text }
 abbrev pub is_elf : List ℕ → Bool
 is_elf bytes = bytes_eq (take 4 bytes) (127 ∷ 69 ∷ 76 ∷ 70 ∷ [])
 
--- 0 where the core broke, and 2 where it runs on
-abbrev pub status_of : Bool → ℕ
-status_of true = 0
-status_of false = 2
-
 -- what a run on the plain board gives; it never wants memory
 abbrev pub run_answer : Result PlainEnd PlainFault → Answer
-run_answer (Ok end) = record { status = status_of end.broke; text = flat_text end }
+run_answer (Ok end) = record { status = status_of end.stop; text = flat_text end }
 run_answer (Err Outside) = refused 5 (codes "image 0 outside")
 run_answer (Err (UnbuiltWord pc word)) = refused 12 (unbuilt_word pc word)
 run_answer (Err NoMemory) = record { status = 8; text = [] }

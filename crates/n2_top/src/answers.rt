@@ -7,7 +7,7 @@ ghost use Rattle.n2_top.specs.Commands.{Plain, two_words, three_words, steps_of}
 ghost use Rattle.n2_top.specs.Answers.{answer_to, file_answer, run_answer, refused, is_elf, is_final, answer_of};
 ghost use Rattle.n2_top.specs.Rows.{row, usage, unbuilt_word};
 
-use n2_flat::{PlainFault, plain_run, plain_text};
+use n2_flat::{PlainFault, plain_run, plain_text, status};
 use n2_outside::{FetchFault, Folder};
 use n2_text::{Items, numeral_up_to, put_text, put_word};
 use n2_word::NoMemory;
@@ -93,9 +93,8 @@ fn run(alloc: Global, bytes: &[u8], steps: u32) -> Result<Answer, NoMemory>
 {
     match plain_run(alloc, bytes, steps) {
         Ok(end) => {
-            let status = if end.broke { 0 } else { 2 };
             let text = plain_text(alloc, &end)?;
-            Ok(made(status, text))
+            Ok(made(status(&end.stop), text))
         }
         Err(PlainFault::Outside) => refuse(alloc, 5, b"image 0 outside"),
         Err(PlainFault::Unbuilt { pc, word }) => refuse_word(alloc, pc, word),

@@ -14,7 +14,8 @@ use std::alloc::Global;
 
 /// Runs the command that the words are, and gives its status:
 ///
-/// * 0: done, and the core broke; 2: done, and the core runs on.
+/// * 0: done, and the core broke; 1: done, and an access was refused or strayed; 2: done, and the
+///   core runs on.
 /// * 3: the words are none of the table.
 /// * 5: the image is absent, longer than 16 MiB, or outside of the memory.
 /// * 6: a file could not be fetched. 7: a put failed. 8: no memory was left.

@@ -31,17 +31,20 @@ fn image(alloc: Global, words: &[u32]) -> Result<Vec<u8>, Fail> {
 fn folder(alloc: Global, failing: &[u64]) -> Result<MemFolder, Fail> {
     let mut files = Vec::new(alloc);
     files.push(("p2.bin".to_string(alloc)?, image(alloc, &HI)?))?;
-    files.push(("zero.bin".to_string(alloc)?, image(alloc, &[0])?))?;
+    files.push(("empty.bin".to_string(alloc)?, Vec::new(alloc)))?;
     files.push((
-        "two.bin".to_string(alloc)?,
-        image(alloc, &[0x0080_0144, 0x0080_0117])?,
+        "uart.bin".to_string(alloc)?,
+        image(alloc, &[0x0200_0074, 0x4080_0037])?,
+    ))?;
+    files.push((
+        "cached.bin".to_string(alloc)?,
+        image(alloc, &[0x0200_0074, 0x4080_0017])?,
     ))?;
     files.push((
         "off.bin".to_string(alloc)?,
         vec![in alloc; 0u8; unseen(65_537)]?,
     ))?;
     files.push(("a.elf".to_string(alloc)?, b"\x7fELF".to_vec(alloc)?))?;
-    files.push(("b.elf".to_string(alloc)?, b"\x7fEL".to_vec(alloc)?))?;
     Ok(MemFolder::new(files, failing.to_vec(alloc)?))
 }
 
@@ -78,12 +81,10 @@ fn answers_each_command_line(rt: HostRuntime) -> Result<(), Fail> {
         ("plain nothing.bin 1", 5, "image 0 absent\n"),
         ("plain off.bin 1", 5, "image 0 outside\n"),
         ("plain a.elf 1", 12, "unbuilt elf\n"),
-        ("plain b.elf 1", 12, "unbuilt word 00000000 004c457f\n"),
-        ("plain zero.bin 1", 12, "unbuilt word 00000000 00000000\n"),
         (
-            "plain two.bin 1000000",
+            "plain uart.bin 1000000",
             12,
-            "unbuilt word 00000004 00800117\n",
+            "unbuilt word 00000004 40800037\n",
         ),
     ];
     for (line, status, text) in cases {
@@ -135,6 +136,35 @@ verdict certified
             .written()
             .starts_with(b"nios2 flat 1\ncore 0 running 00000004\n")
     );
+    Ok(())
+}
+
+#[test]
+fn reports_what_runs_on_and_what_is_refused(rt: HostRuntime) -> Result<(), Fail> {
+    let alloc = rt.alloc();
+    let cases = [
+        (
+            "plain empty.bin 3",
+            2,
+            "nios2 flat 1\ncore 0 running 00000000\n",
+        ),
+        (
+            "plain cached.bin 9",
+            1,
+            "nios2 flat 1\ncore 0 refused separate pc 00000004 insn 40800017 address 00010000 line 00010000\n",
+        ),
+    ];
+    for (line, status, front) in cases {
+        let mut folder = folder(alloc, &[])?;
+        let mut out = MemSink::new(alloc, Vec::new(alloc), 4096, unseen(4096))?;
+        let mut journal = MemSink::new(alloc, Vec::new(alloc), 7, unseen(64))?;
+        let words = words_of(alloc, line)?;
+        assert_eq!(rt;
+            tool_top(alloc, &words, &mut folder, &mut out, &mut journal),
+            status
+        );
+        assert!(rt; out.written().starts_with(front.as_bytes()), "at {line}");
+    }
     Ok(())
 }
 

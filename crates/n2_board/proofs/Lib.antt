@@ -1,0 +1,5 @@
+pub mod Steps
+pub mod Finding
+pub mod Zones
+pub mod Found
+pub mod Sound

@@ -3,7 +3,7 @@ use Rattle.std.proofs.Common.{◌≡◌, ℕ, zero, suc, ◌+◌, ◌-◌, ◌<�
 use Rattle.std.specs.Prelude.{Option, Some, None, Result, Ok, Err, is_some}
 use Rattle.std.proofs.lemmas.Bool.{false≢true}
 use Rattle.std.proofs.lemmas.Bool.Decides.{nat_tests}
-use Rattle.n2_flat.specs.declared.stops.Stop.{Stop}
+use Rattle.n2_board.specs.declared.stops.Stop.{Stop}
 use Rattle.n2_flat.specs.declared.machine.PlainEnd.{PlainEnd}
 use Rattle.n2_flat.specs.declared.machine.PlainFault.{PlainFault}
 use Rattle.n2_flat.specs.declared.machine.PlainFault.TheVariants.{Outside, Unbuilt, NoMemory}

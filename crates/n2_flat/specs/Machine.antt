@@ -1,16 +1,15 @@
 -- The flat machine on the plain board: one memory, one core, and the bytes that its UART took.
-use Rattle.std.specs.Prelude.{◌≡◌, ℕ, zero, suc, ◌*◌, ◌/◌, ◌%◌, ◌^◌, List, [], ◌∷◌, ◌++◌, length, replicate, slice_index, Bool, true, false, Option, Some, None, Result, Ok, Err, nat_lt, if◌then◌else◌}
+use Rattle.std.specs.Prelude.{◌≡◌, ℕ, zero, suc, ◌/◌, ◌%◌, ◌^◌, List, [], ◌∷◌, ◌++◌, length, replicate, slice_index, Bool, true, false, Option, Some, None, Result, Ok, Err, nat_lt, if◌then◌else◌}
 use Rattle.n2_word.specs.declared.Width.{Width}
 use Rattle.n2_word.specs.Lines.{line, without_bypass}
 use Rattle.n2_exec.specs.declared.Regs.{Regs}
 use Rattle.n2_exec.specs.declared.Outcome.{Outcome}
-use Rattle.n2_exec.specs.declared.Outcome.TheVariants as Outcome
 use Rattle.n2_exec.specs.Registers.{passed_regs, loaded_regs, raised, interrupted, is_waiting}
 use Rattle.n2_exec.specs.Outcomes.{loaded_value}
 use Rattle.n2_exec.specs.Effect.{effect_of_word}
-use Rattle.n2_flat.specs.declared.stops.Stop.{Stop}
-use Rattle.n2_flat.specs.declared.stops.Stop.TheVariants.{Broke, Refused, Stray}
-use Rattle.n2_flat.specs.declared.stops.Kind.TheVariants.{Separate}
+use Rattle.n2_board.specs.declared.stops.Stop.{Stop}
+use Rattle.n2_board.specs.declared.stops.Stop.TheVariants.{Broke, Refused, Stray}
+use Rattle.n2_board.specs.declared.stops.Kind.TheVariants.{Separate}
 use Rattle.n2_flat.specs.declared.plain_board.Place.{Place}
 use Rattle.n2_flat.specs.declared.plain_board.Place.TheVariants.{Memory, UartData, UartControl, Nothing}
 use Rattle.n2_flat.specs.declared.plain_board.Flaw.{Flaw}

@@ -4,11 +4,10 @@
 mod machine;
 mod plain_board;
 mod report;
-mod stops;
 
 pub use machine::{PlainEnd, PlainFault, plain_run};
+pub use n2_board::{Kind, Refusal, Stop};
 pub use report::{plain_text, status};
-pub use stops::{Kind, Refusal, Stop};
 
 #[cfg(test)]
 mod tests;

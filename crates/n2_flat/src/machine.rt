@@ -14,7 +14,7 @@ ghost use Rattle.n2_flat.specs.Machine.{started, flat, moved, stopped, stop_for 
 use crate::plain_board::{
     Flaw, MEMORY_BYTES, MEMORY_WORDS, Place, data_flaw, fetch_flaw, place_at,
 };
-use crate::stops::{Kind, Refusal, Stop};
+use n2_board::{Kind, Refusal, Stop};
 use n2_exec::{Cause, Outcome, Regs, effect, extended, interrupt, loaded, passed, raise, waiting};
 use n2_insn::decode;
 use n2_text::Items;

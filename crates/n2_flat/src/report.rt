@@ -5,7 +5,7 @@ ghost use Rattle.std.specs.List.{flat_map};
 ghost use Rattle.n2_flat.specs.Report.{kind_text, refusal_text, named, stop_text, words_text, registers_row, registers_text, read_registers, controls, core_text, byte_text, bytes_text, uart_text, is_broken, verdict_text, flat_text, status_of};
 
 use crate::machine::PlainEnd;
-use crate::stops::{Kind, Refusal, Stop};
+use n2_board::{Kind, Refusal, Stop};
 use n2_exec::Regs;
 use n2_text::{digit, put_number, put_text, put_word};
 use n2_word::NoMemory;

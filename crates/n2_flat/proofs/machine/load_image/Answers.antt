@@ -1,4 +1,4 @@
-use Rattle.std.proofs.Common.{◌≡◌, ℕ, List, ◌++◌, [], ap, sym, ◌∙◌, arith, append-nil}
+use Rattle.std.proofs.Common.{ℕ, List, ◌++◌, ap, sym, ◌∙◌, arith, append-nil}
 use Rattle.n2_flat.proofs.Words.{image_words-more, image_words-none}
 use Rattle.n2_flat.proofs.machine.load_image.Goals as goal
 

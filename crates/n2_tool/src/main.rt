@@ -1,6 +1,9 @@
 //! The program `n2_tool`: the tool's top call over the current folder and standard output.
 #![tactic(auto)]
 
+ghost use Rattle.std.specs.Prelude.{◌≡◌};
+ghost use Rattle.std.specs.Process.{exit_status};
+
 use n2_outside::{DirFolder, NullSink, StdSink};
 use n2_top::tool_top;
 use std::alloc::AllocError;
@@ -20,13 +23,20 @@ fn command_words(rt: &(impl Env + AllocGlobal)) -> Result<Vec<String>, AllocErro
     }
 }
 
+/// The program ends with the status of its call.
+fn ended_with(status: u8) -> ExitCode
+    ensures { exit_status result ≡ status }
+{
+    ExitCode::from(status)
+}
+
 fn main(rt: HostRuntime) -> ExitCode {
     let Ok(words) = command_words(&rt) else {
-        return ExitCode::from(NO_MEMORY);
+        return ended_with(NO_MEMORY);
     };
     let mut folder = DirFolder::new(&rt);
     let mut out = StdSink::new(&rt);
     let mut journal = NullSink::new();
     let status = tool_top(rt.alloc(), &words, &mut folder, &mut out, &mut journal);
-    ExitCode::from(status)
+    ended_with(status)
 }

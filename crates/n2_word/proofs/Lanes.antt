@@ -1,7 +1,7 @@
 -- The bytes of a merged word.
 use Rattle.std.proofs.lemmas.Bool.{false≢true}
 use Rattle.std.proofs.lemmas.Bool.Decides.{nat_tests}
-use Rattle.std.proofs.Common.{◌≡◌, ◌≢◌, ℕ, zero, suc, ◌+◌, ◌-◌, ◌*◌, ◌/◌, ◌%◌, ◌^◌, ◌<◌, ◌≤◌, ◌⊎◌, inl, inr, List, [], ◌∷◌, ◌++◌, length, take, drop, IsTrue, Bool, true, false, refl, sym, ap, ◌∙◌, arith, length-append, append_assoc}
+use Rattle.std.proofs.Common.{◌≡◌, ◌≢◌, ℕ, zero, suc, ◌+◌, ◌*◌, ◌/◌, ◌%◌, ◌^◌, ◌<◌, ◌≤◌, ◌⊎◌, inl, inr, List, [], ◌∷◌, length, take, drop, IsTrue, refl, sym, ap, ◌∙◌, arith}
 use Rattle.n2_word.proofs.Places.{read_there, read_in_front, read_behind}
 use Rattle.n2_word.specs.declared.Width.{Width}
 use Rattle.n2_word.specs.declared.Width.TheVariants.{Byte, Half, Word}

@@ -1,6 +1,5 @@
 -- What is read from a line after a store.
-use Rattle.std.proofs.Common.{◌≡◌, ◌≢◌, ℕ, ◌+◌, ◌<◌, ◌≤◌, ◌⊎◌, List, length, get_or, IsTrue, sym, ap, ◌∙◌, arith}
-use Rattle.std.proofs.Math.ListN.{set}
+use Rattle.std.proofs.Common.{◌≡◌, ℕ, ◌+◌, ◌≤◌, ◌⊎◌, List, length, get_or, IsTrue, sym, ap, ◌∙◌, arith}
 use Rattle.std.proofs.lemmas.List.{get_or-set_same}
 use Rattle.n2_word.specs.declared.Width.{Width}
 use Rattle.n2_word.specs.Words.{size, is_aligned, lane_of, extracted, merged, low_bits}

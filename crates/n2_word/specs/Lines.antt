@@ -1,5 +1,5 @@
 -- Lines of 32 bytes and the sets that keep them (Nios II Processor Reference Guide, "Cache Memory").
-use Rattle.std.specs.Prelude.{ℕ, ◌+◌, ◌*◌, ◌/◌, ◌%◌, ◌^◌, List, slice_index, slice_set}
+use Rattle.std.specs.Prelude.{ℕ, ◌*◌, ◌/◌, ◌%◌, ◌^◌, List, slice_index, slice_set}
 use Rattle.n2_word.specs.declared.Width.{Width}
 use Rattle.n2_word.specs.Words.{lane_of, extracted, merged}
 

@@ -1,4 +1,4 @@
-use Rattle.std.proofs.Common.{◌≡◌, ℕ, List, map, drop, Option}
+use Rattle.std.proofs.Common.{◌≡◌, map, drop}
 use Rattle.std.specs.Prelude.{string_bytes}
 use Rattle.n2_outside.specs.Files.{file_at}
 use Rattle.n2_outside.proofs.memory.find.Given as goal

@@ -1,5 +1,6 @@
 -- What a file is as an executable (ELF32 specification, "ELF Header" and "Program Header").
-use Rattle.std.specs.Prelude.{ℕ, zero, suc, ◌+◌, ◌*◌, ◌/◌, ◌%◌, List, [], ◌∷◌, ◌++◌, length, take, drop, Bool, true, false, not, ◌&&◌, ◌==◌, nat_lt, nat_le, if◌then◌else◌, Option, Some, None, Result, Ok, Err}
+use Rattle.std.specs.Prelude.{ℕ, zero, suc, ◌+◌, ◌*◌, ◌/◌, ◌%◌, ◌≤◌, List, [], ◌∷◌, ◌++◌, length, take, drop, Bool, true, false, not, ◌&&◌, ◌==◌, nat_lt, nat_le, if◌then◌else◌, Option, Some, None, Result, Ok, Err}
+use Rattle.std.specs.List.{AllByRecursion}
 use Rattle.n2_elf.specs.Fields.{byte_at, half_at, word_at}
 use Rattle.n2_elf.specs.declared.image.Segment.{Segment}
 use Rattle.n2_elf.specs.declared.image.Image.{Image}
@@ -147,3 +148,10 @@ raw_image bytes at = record {
   entry = at;
   segments = if length bytes == 0 then [] else record { at = at; bytes = bytes; size = length bytes; exec = true; write = false } ∷ [];
 }
+
+-- each segment is at least as long as its bytes
+abbrev pub HoldsItsBytes : Segment → Type 0
+HoldsItsBytes s = length s.bytes ≤ s.size
+
+abbrev pub IsSized : Image → Type 0
+IsSized image = AllByRecursion HoldsItsBytes image.segments

@@ -1,7 +1,7 @@
 //! What an executable is to a system of cores: an entry and segments.
 
 ghost use Rattle.std.specs.Prelude.{◌≡◌, ◌≢◌, ◌↔◌, ◌<◌, ◌^◌, IsTrue, IfOk, IfErr, Ok, Err, length, take};
-ghost use Rattle.n2_elf.specs.Reading.{magic, has_magic, raw_image, elf};
+ghost use Rattle.n2_elf.specs.Reading.{magic, has_magic, raw_image, elf, IsSized};
 ghost use Rattle.n2_elf.specs.Writing.{IsWritable, file_of};
 
 use crate::reading::{check_header, check_programs, load, word_at};
@@ -71,6 +71,7 @@ impl Image {
     pub fn raw(alloc: Global, bytes: &[u8], at: u32) -> Result<Image, ElfFault>
         requires { length bytes.now < 2 ^ 32 }
         ensures ok { IfOk result (λ image. image ≡ raw_image bytes.now at) }
+        ensures sized { IfOk result (λ image. IsSized image) }
         ensures fault { IfErr result (λ fault. fault ≡ ElfFault.NoMemory) }
     {
         let mut segments = Items::new(alloc);
@@ -95,6 +96,7 @@ impl Image {
     #[tactic(auto, unfolding(crate::specs::Reading::elf, crate::specs::Reading::fault_of))]
     pub fn read(alloc: Global, bytes: &[u8]) -> Result<Image, ElfFault>
         ensures ok { IfOk result (λ image. elf bytes.now ≡ Ok image) }
+        ensures sized { IfOk result (λ image. IsSized image) }
         ensures fault { IfErr result (λ fault. fault ≢ ElfFault.NoMemory → elf bytes.now ≡ Err fault) }
     {
         if let Some(fault) = check_header(bytes) {

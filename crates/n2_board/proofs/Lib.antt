@@ -3,3 +3,5 @@ pub mod Finding
 pub mod Zones
 pub mod Found
 pub mod Sound
+pub mod Joining
+pub mod Meeting

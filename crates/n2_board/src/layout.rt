@@ -127,7 +127,7 @@ impl Layout {
         ensures fault { IfErr result (λ fault. fault ≢ OpenFault.NoMemory → spec.open_fault board.now images.now ≡ Some fault) }
     {
         let extents = extents_of(alloc, images)?;
-        match misfit(board, images, extents.as_slice()) {
+        match misfit(alloc, board, images, extents.as_slice())? {
             Some(fault) => return Err(fault),
             None => (),
         }

@@ -49,7 +49,7 @@ fn one(first: Span) -> Spans
 }
 
 /// Whether two spans share a byte.
-pub fn share(a: Span, b: Span) -> bool
+fn share(a: Span, b: Span) -> bool
     ensures { result ≡ spec.share a b }
 {
     a.from.max(b.from) < a.end.min(b.end)

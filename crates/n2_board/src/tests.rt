@@ -427,6 +427,41 @@ fn tells_classes(rt: HostRuntime) -> Result<(), Fail> {
     Ok(())
 }
 
+/// An image of so many segments of one line, on every second line, of which every second one can be
+/// written.
+fn striped(alloc: Global, count: u32) -> Result<Image, NoMemory> {
+    let mut segments = Items::new(alloc);
+    for i in 0..count {
+        segments.push(segment(alloc, i.wrapping_mul(0x40), 0x20, i % 2 == 1)?)?;
+    }
+    Ok(Image { entry: 0, segments })
+}
+
+/// That image beside one that lies there.
+fn beside_striped(alloc: Global, at: u32) -> Result<Option<Result<Layout, OpenFault>>, NoMemory> {
+    let board = good(alloc)?;
+    let images = two_images(alloc, striped(alloc, 60)?, image(alloc, at, at, 0x10)?)?;
+    Ok(open(alloc, &board, &images))
+}
+
+#[test]
+fn takes_many_segments(rt: HostRuntime) -> Result<(), Fail> {
+    let layout = beside_striped(rt.alloc(), 0xee0).ok().ok_or("memory")?;
+    let layout = layout.ok_or("a board")?.ok().ok_or("a layout")?;
+    for line in 0..119 {
+        let want = match line % 4 {
+            0 => Class::Code,
+            2 => Class::Private(0),
+            _ => Class::Absent,
+        };
+        assert!(rt; layout.class_of(line) == want, "line {line}");
+    }
+    let layout = beside_striped(rt.alloc(), 0xedc).ok().ok_or("memory")?;
+    let fault = layout.ok_or("a board")?.err();
+    assert!(rt; fault == Some(OpenFault::Overlap(0, 1)));
+    Ok(())
+}
+
 #[test]
 fn tells_places(rt: HostRuntime) -> Result<(), Fail> {
     let layout = laid_out(rt.alloc()).ok_or("a layout")?;

@@ -8,14 +8,14 @@ use Rattle.n2_board.proofs.fitting.overlaps.Goals as goal
 pub returns-in-Some : goal.returns-in-Some
 returns-in-Some c =
     let f : ℕ → Option OpenFault = λ i. first_from (λ j. overlap_of c.args.extents.now i j) 0 c.args.count in
-    ap (λ (o : Option OpenFault). or_else o (first_from f (c.loop-a.a + 1) (c.args.count - (c.loop-a.a + 1)))) c.in-Some.ensures
+    ap (λ (o : Option OpenFault). or_else o (first_from f (c.loop-a.a + 1) (c.args.count - (c.loop-a.a + 1)))) (sym c.in-Some.is ∙ c.in_ok-fault.ensures)
     ∙ sym (first_from-next f c.loop-a.a c.args.count c.loop-a-test.true)
     ∙ c.loop-a.invariant
 
 pub loop-a-preserved : goal.loop-a-preserved
 loop-a-preserved c =
     let f : ℕ → Option OpenFault = λ i. first_from (λ j. overlap_of c.args.extents.now i j) 0 c.args.count in
-    ap (λ (o : Option OpenFault). or_else o (first_from f (c.loop-a.a + 1) (c.args.count - (c.loop-a.a + 1)))) c.in-None.ensures
+    ap (λ (o : Option OpenFault). or_else o (first_from f (c.loop-a.a + 1) (c.args.count - (c.loop-a.a + 1)))) (sym c.in-None.is ∙ c.in_ok-fault.ensures)
     ∙ sym (first_from-next f c.loop-a.a c.args.count c.loop-a-test.true)
     ∙ c.loop-a.invariant
 

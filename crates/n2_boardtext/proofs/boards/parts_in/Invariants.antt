@@ -1,0 +1,7 @@
+use Rattle.std.proofs.Common.{◌≡◌, ◌++◌, drop}
+use Rattle.toml.specs.View.{items_view, table_view}
+use Rattle.n2_boardtext.specs.Boards.{parts_in}
+use Rattle.n2_boardtext.proofs.boards.parts_in.Given as goal
+
+abbrev pub invariant-loop-item : goal.invariant-loop-item
+invariant-loop-item l = l.parts ++ parts_in l.kind (table_view l.tree) (items_view (drop l.item-index l.items)) ≡ parts_in l.kind (table_view l.tree) (items_view l.items)

@@ -1,2 +1,4 @@
 pub mod Words
 pub mod Acts
+pub mod PlainBoard
+pub mod Laid

@@ -1,48 +1,44 @@
--- The plain board: what stands where, and which accesses it refuses.
-use Rattle.std.specs.Prelude.{ℕ, ◌/◌, ◌==◌, ◌||◌, ◌^◌, Bool, Option, Some, None, nat_lt, nat_le, if◌then◌else◌}
-use Rattle.n2_word.specs.declared.Width.{Width}
-use Rattle.n2_word.specs.declared.Width.TheVariants.{Byte, Half, Word}
-use Rattle.n2_word.specs.Lines.{line}
-use Rattle.n2_flat.specs.declared.plain_board.Place.{Place}
-use Rattle.n2_flat.specs.declared.plain_board.Place.TheVariants.{Memory, UartData, UartControl, Nothing}
-use Rattle.n2_flat.specs.declared.plain_board.Flaw.{Flaw}
-use Rattle.n2_flat.specs.declared.plain_board.Flaw.TheVariants.{Strays, Separates}
+-- The plain board: 64 KiB of memory, half of it code and half of it the core's own, one core and one UART.
+use Rattle.std.specs.Prelude.{[], ◌∷◌, None, codes}
+use Rattle.n2_elf.specs.declared.image.Image.{Image}
+use Rattle.n2_board.specs.declared.board.Board.{Board}
+use Rattle.n2_board.specs.declared.board.MemoryRow.{MemoryRow}
+use Rattle.n2_board.specs.declared.board.CoreRow.{CoreRow}
+use Rattle.n2_board.specs.declared.board.UartRow.{UartRow}
+use Rattle.n2_board.specs.declared.board.RegionRow.{RegionRow}
+use Rattle.n2_board.specs.declared.board.RegionClass.TheVariants as classes
+use Rattle.n2_board.specs.Ground.{Ground, ground_of}
 
--- what stands at an address below 2^31: 64 KiB of memory from 0 on, and the UART's two registers at 00010000 and 00010004
-abbrev pub place_of : ℕ → Place
-place_of address =
-    if nat_lt address 65536 then Memory
-    else (if address / 4 == 16384 then UartData
-    else (if address / 4 == 16385 then UartControl
-    else Nothing))
+abbrev pub plain_memory : MemoryRow
+plain_memory = record { base = 0; size = 65536 }
 
--- the lines below 00008000 are code, and those of the memory above are the core's own
-abbrev pub is_code_line : ℕ → Bool
-is_code_line number = nat_lt number 1024
+abbrev pub plain_core : CoreRow
+plain_core = record { cpuid = 0; image = []; at = 0; reset = None; exception = 32; dcache = 2048; icache = 4096; sample = 64; evict = 0 }
 
--- a load or store goes past the cache where its instruction says so or its address has bit 31
-abbrev pub bypasses : ℕ → Bool → Bool
-bypasses address io = io || nat_le (2 ^ 31) address
+abbrev pub plain_uart : UartRow
+plain_uart = record { name = codes "u0"; base = 65536; core = 0; irq = None; read_depth = 64; write_depth = 64; input = [] }
 
--- a fetch strays outside of the memory, and is refused where its line is no code
-abbrev pub fetch_flaw : ℕ → Option Flaw
-fetch_flaw pc = if nat_lt pc 65536 then (if is_code_line (line pc) then None else Some Separates) else Some Strays
+abbrev pub plain_code : RegionRow
+plain_code = record { name = codes "code"; base = 0; size = 32768; class = classes.Code }
 
--- a device is used by whole words, past the cache
-abbrev pub device_flaw : Width → Bool → Option Flaw
-device_flaw Byte bypass = Some Strays
-device_flaw Half bypass = Some Strays
-device_flaw Word bypass = if bypass then None else Some Separates
+abbrev pub plain_own : RegionRow
+plain_own = record { name = codes "own"; base = 32768; size = 32768; class = classes.Private 0 }
 
--- code is not stored to, and the core's own lines are used through the cache
-abbrev pub memory_flaw : Bool → Bool → Bool → Option Flaw
-memory_flaw code store bypass =
-    if code then (if store then Some Separates else None)
-    else (if bypass then Some Separates else None)
+unfoldable pub plain_board : Board
+plain_board = record {
+  turns = 1000000;
+  journal = 100000;
+  memory = plain_memory ∷ [];
+  core = plain_core ∷ [];
+  mutex = [];
+  mailbox = [];
+  timer = [];
+  uart = plain_uart ∷ [];
+  region = plain_code ∷ plain_own ∷ [];
+  dump = [];
+  script = [];
+}
 
--- what is wrong with a load or store, by what stands at its address without bit 31 and by its line
-abbrev pub access_flaw : Place → ℕ → Width → Bool → Bool → Option Flaw
-access_flaw Memory number width store bypass = memory_flaw (is_code_line number) store bypass
-access_flaw UartData number width store bypass = device_flaw width bypass
-access_flaw UartControl number width store bypass = device_flaw width bypass
-access_flaw Nothing number width store bypass = Some Strays
+-- the layout of the plain board with an image
+abbrev pub plain_ground : Image → Ground
+plain_ground image = ground_of plain_board (image ∷ [])

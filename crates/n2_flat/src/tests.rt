@@ -1,5 +1,13 @@
+ghost use Rattle.std.specs.Prelude.{◌<◌, ◌^◌, IfOk, length};
+ghost use Rattle.n2_elf.specs.Reading.{HoldsItsBytes, IsSized};
+
 use super::*;
+use n2_board::{Layout, OpenFault};
+use n2_elf::{Image, Segment};
+use n2_text::Items;
+use n2_word::NoMemory;
 use std::alloc::{AllocError, Global};
+use std::slice;
 use std::test::Fail;
 
 const BREAK: u32 = 0x003d_a03a;
@@ -15,6 +23,33 @@ fn image(alloc: Global, words: &[u32]) -> Result<Vec<u8>, AllocError> {
     Ok(bytes)
 }
 
+// A run of an image on the plain board; an image that does not fit it counts as one that has no end.
+fn run_image(alloc: Global, image: &Image, steps: u32) -> Result<PlainEnd, PlainFault>
+    requires { IsSized image.now }
+{
+    let Ok(board) = plain_board(alloc) else {
+        return Err(PlainFault::NoMemory);
+    };
+    let Ok(layout) = Layout::open(alloc, &board, slice::from_ref(image)) else {
+        return Err(PlainFault::NoMemory);
+    };
+    plain_run(alloc, image, &layout, steps)
+}
+
+// A run of words from address 0 on.
+fn run(alloc: Global, words: &[u32], steps: u32) -> Result<PlainEnd, PlainFault> {
+    let Ok(bytes) = image(alloc, words) else {
+        return Err(PlainFault::NoMemory);
+    };
+    if bytes.len() > 0x1_0000 {
+        return Err(PlainFault::NoMemory);
+    }
+    let Ok(image) = Image::raw(alloc, &bytes, 0) else {
+        return Err(PlainFault::NoMemory);
+    };
+    run_image(alloc, &image, steps)
+}
+
 // A number that a proof does not see.
 fn unseen(n: usize) -> usize {
     n
@@ -23,7 +58,7 @@ fn unseen(n: usize) -> usize {
 #[test]
 fn adds_and_breaks(rt: HostRuntime) -> Result<(), Fail> {
     let alloc = rt.alloc();
-    let end = plain_run(alloc, &image(alloc, &[0x0080_0144, BREAK])?, 10)?;
+    let end = run(alloc, &[0x0080_0144, BREAK], 10)?;
     let want = "nios2 flat 1
 core 0 broke 00000004
 r0 00000000 00000000 00000005 00000000 00000000 00000000 00000000 00000000
@@ -36,7 +71,7 @@ verdict certified
 ";
     assert_eq!(rt; plain_text(alloc, &end)?.as_slice(), want.as_bytes());
     assert_eq!(rt; status(&end.stop), 0);
-    let empty = plain_run(alloc, &[], 3)?;
+    let empty = run(alloc, &[], 3)?;
     assert_eq!(rt;
         (empty.regs.pc, empty.regs.gpr[31], status(&empty.stop)),
         (0, 4, 2)
@@ -55,18 +90,14 @@ fn sends_bytes_up_to_the_depth(rt: HostRuntime) -> Result<(), Fail> {
         0x4080_0035,
         BREAK,
     ];
-    let end = plain_run(alloc, &image(alloc, &words)?, 100)?;
+    let end = run(alloc, &words, 100)?;
     assert_eq!(rt; end.stop, Some(Stop::Broke));
     assert_eq!(rt; end.sent.as_slice(), b"hi".as_slice());
-    let running = plain_run(alloc, &image(alloc, &words)?, 3)?;
+    let running = run(alloc, &words, 3)?;
     assert_eq!(rt; (running.stop, running.regs.pc), (None, 0xc));
     assert_eq!(rt; running.sent.as_slice(), b"h".as_slice());
     // orhi r8, r0, 1; and again: stwio r8, 0(r8); br to it
-    let endless = plain_run(
-        alloc,
-        &image(alloc, &[0x0200_0074, 0x4200_0035, 0x003f_fe06])?,
-        200,
-    )?;
+    let endless = run(alloc, &[0x0200_0074, 0x4200_0035, 0x003f_fe06], 200)?;
     assert_eq!(rt; endless.sent.len(), 64);
     Ok(())
 }
@@ -103,7 +134,7 @@ fn loads_and_stores_each_width_and_lane(rt: HostRuntime) -> Result<(), Fail> {
         0x45c0_0117,
         BREAK,
     ];
-    let end = plain_run(alloc, &image(alloc, &words)?, 100)?;
+    let end = run(alloc, &words, 100)?;
     assert_eq!(rt; end.stop, Some(Stop::Broke));
     let want = [
         0xef,
@@ -141,14 +172,14 @@ fn raises_and_passes_cache_operations(rt: HostRuntime) -> Result<(), Fail> {
         0x0140_0144,
         BREAK,
     ];
-    let end = plain_run(alloc, &image(alloc, &misaligned)?, 100)?;
+    let end = run(alloc, &misaligned, 100)?;
     assert_eq!(rt;
         (end.regs.pc, end.regs.gpr[29], end.regs.gpr[5]),
         (0x24, 8, 5)
     );
     // the first word is a custom instruction
     let illegal = [0x0000_0032, NOP, NOP, NOP, NOP, NOP, NOP, NOP, BREAK];
-    let end = plain_run(alloc, &image(alloc, &illegal)?, 100)?;
+    let end = run(alloc, &illegal, 100)?;
     assert_eq!(rt;
         (end.regs.pc, end.regs.gpr[29], end.stop),
         (0x20, 4, Some(Stop::Broke))
@@ -163,10 +194,10 @@ fn raises_and_passes_cache_operations(rt: HostRuntime) -> Result<(), Fail> {
         0x1001_483a,
         BREAK,
     ];
-    let end = plain_run(alloc, &image(alloc, &lines)?, 100)?;
+    let end = run(alloc, &lines, 100)?;
     assert_eq!(rt; (end.regs.pc, end.stop), (0x18, Some(Stop::Broke)));
     // code is read past the cache
-    let end = plain_run(alloc, &image(alloc, &[0x0080_0037, BREAK])?, 100)?;
+    let end = run(alloc, &[0x0080_0037, BREAK], 100)?;
     assert_eq!(rt;
         (end.regs.gpr[2], end.stop),
         (0x0080_0037, Some(Stop::Broke))
@@ -212,11 +243,11 @@ fn stops_at_what_the_board_refuses(rt: HostRuntime) -> Result<(), Fail> {
         ),
     ];
     for (words, stop) in cases {
-        let end = plain_run(alloc, &image(alloc, words)?, 9)?;
+        let end = run(alloc, words, 9)?;
         assert_eq!(rt; end.stop, Some(stop), "at {stop:?}");
         assert_eq!(rt; status(&end.stop), 1);
     }
-    let end = plain_run(alloc, &image(alloc, &[0x0220_0014, 0x4080_0037])?, 9)?;
+    let end = run(alloc, &[0x0220_0014, 0x4080_0037], 9)?;
     let text = plain_text(alloc, &end)?;
     assert!(rt;
         text.starts_with(
@@ -224,7 +255,7 @@ fn stops_at_what_the_board_refuses(rt: HostRuntime) -> Result<(), Fail> {
         )
     );
     assert!(rt; text.ends_with(b"verdict refused\n"));
-    let end = plain_run(alloc, &image(alloc, &[0x0200_00b4, 0x4080_0017])?, 9)?;
+    let end = run(alloc, &[0x0200_00b4, 0x4080_0017], 9)?;
     assert!(rt;
         plain_text(alloc, &end)?.starts_with(b"nios2 flat 1\ncore 0 stray 00000004 00020000\n")
     );
@@ -236,12 +267,12 @@ fn names_what_is_not_built(rt: HostRuntime) -> Result<(), Fail> {
     let alloc = rt.alloc();
     // ldwio r2, 0(r8) and stwio r2, 4(r8) of the UART
     for word in [0x4080_0037, 0x4080_0135] {
-        let bytes = image(alloc, &[0x0200_0074, word])?;
+        let words = [0x0200_0074, word];
         assert_eq!(rt;
-            plain_run(alloc, &bytes, 2).err(),
+            run(alloc, &words, 2).err(),
             Some(PlainFault::Unbuilt { pc: 4, word })
         );
-        assert!(rt; plain_run(alloc, &bytes, 1).is_ok());
+        assert!(rt; run(alloc, &words, 1).is_ok());
     }
     Ok(())
 }
@@ -250,15 +281,71 @@ fn names_what_is_not_built(rt: HostRuntime) -> Result<(), Fail> {
 fn runs_a_million_acts(rt: HostRuntime) -> Result<(), Fail> {
     let alloc = rt.alloc();
     // addi r2, r2, 1; br to it
-    let end = plain_run(
-        alloc,
-        &image(alloc, &[0x1080_0044, 0x003f_fe06])?,
-        1_000_000,
-    )?;
+    let end = run(alloc, &[0x1080_0044, 0x003f_fe06], 1_000_000)?;
     assert_eq!(rt; (end.regs.gpr[2], end.stop), (500_000, None));
+    Ok(())
+}
+
+// A segment with these bytes; behind them it has so many zeros.
+fn segment(alloc: Global, at: u32, bytes: &[u8], zeros: u8, exec: bool) -> Result<Segment, NoMemory>
+    requires { length bytes.now < 2 ^ 16 }
+    ensures { IfOk result HoldsItsBytes }
+{
+    Ok(Segment {
+        at,
+        bytes: Items::from_bytes(alloc, bytes)?,
+        size: bytes.len() as u32 + u32::from(zeros),
+        exec,
+        write: !exec,
+    })
+}
+
+// Code that loads three words from 00008000 on and stands behind a word that is not run; data at an
+// odd address; and, laid over it, a byte with two zeros behind it.
+fn three_segments(alloc: Global) -> Result<Image, NoMemory>
+    ensures { IfOk result IsSized }
+{
+    let mut segments = Items::new(alloc);
+    segments.push(segment(alloc, 0, &CODE, 0, true)?)?;
+    segments.push(segment(alloc, 0x8001, &DATA, 0, false)?)?;
+    segments.push(segment(alloc, 0x8004, &[0xee], 2, false)?)?;
+    Ok(Image { entry: 4, segments })
+}
+
+const DATA: [u8; 11] = [
+    0x11, 0x22, 0x33, 0x44, 0x55, 0x66, 0x77, 0x88, 0x99, 0xaa, 0xbb,
+];
+
+// break; orhi r8, r0, 0; ori r8, r8, 0x8000; ldw r2, 0(r8); ldw r3, 4(r8); ldw r4, 8(r8); break
+const CODE: [u8; 28] = [
+    0x3a, 0xa0, 0x3d, 0x00, 0x34, 0x00, 0x00, 0x02, 0x14, 0x00, 0x20, 0x42, 0x17, 0x00, 0x80, 0x40,
+    0x17, 0x01, 0xc0, 0x40, 0x17, 0x02, 0x00, 0x41, 0x3a, 0xa0, 0x3d, 0x00,
+];
+
+#[test]
+fn lays_segments_over_zeros_in_order(rt: HostRuntime) -> Result<(), Fail> {
+    let alloc = rt.alloc();
+    let image = three_segments(alloc)?;
+    let end = run_image(alloc, &image, 100)?;
+    assert_eq!(rt; (end.regs.pc, end.stop), (0x18, Some(Stop::Broke)));
+    assert_eq!(rt;
+        &end.regs.gpr[2..5],
+        [0x3322_1100, 0x7700_00ee, 0xbbaa_9988].as_slice()
+    );
+    Ok(())
+}
+
+#[test]
+fn refuses_what_is_not_in_the_memory(rt: HostRuntime) -> Result<(), Fail> {
+    let alloc = rt.alloc();
+    let board = plain_board(alloc)?;
     let long = vec![in alloc; 0u8; unseen(0x1_0001)]?;
-    assert_eq!(rt; plain_run(alloc, &long, 1).err(), Some(PlainFault::Outside));
-    assert!(rt; 0 < long.len());
-    assert!(rt; plain_run(alloc, &long[1..], 1).is_ok());
+    assert!(rt; 0x1_0000 < long.len() && long.len() < 0x2_0000);
+    let image = Image::raw(alloc, &long, 0).ok().ok_or("memory")?;
+    let opened = Layout::open(alloc, &board, slice::from_ref(&image));
+    assert_eq!(rt; opened.err(), Some(OpenFault::Outside(0)));
+    let image = Image::raw(alloc, &long[1..], 0).ok().ok_or("memory")?;
+    assert!(rt; Layout::open(alloc, &board, slice::from_ref(&image)).is_ok());
+    assert!(rt; run_image(alloc, &image, 1).is_ok());
     Ok(())
 }

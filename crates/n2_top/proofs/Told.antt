@@ -1,5 +1,5 @@
 -- Answers over files that are told.
-use Rattle.std.proofs.Common.{◌≡◌, ℕ, List, [], ◌∷◌, length, get_or, map, refl, sym, ap, ◌∙◌, arith}
+use Rattle.std.proofs.Common.{◌≡◌, ℕ, List, [], ◌∷◌, length, get_or, map, sym, ap, ◌∙◌, arith}
 use Rattle.std.specs.Prelude.{Option, Some, None, IfSome}
 use Rattle.n2_outside.specs.Files.{file_at, IsFile}
 use Rattle.n2_top.specs.declared.answers.Answer.{Answer}

@@ -1,37 +1,50 @@
 -- What the tool answers: a status and a text, over files by their names.
-use Rattle.std.specs.Prelude.{ℕ, List, [], ◌∷◌, length, take, Option, Some, None, Bool, Result, Ok, Err, nat_lt, if◌then◌else◌, ◌||◌, codes}
-use Rattle.std.specs.Str.{bytes_eq}
+use Rattle.std.specs.Prelude.{ℕ, List, [], ◌∷◌, length, Option, Some, None, Bool, Result, Ok, Err, nat_lt, if◌then◌else◌, ◌||◌, codes}
 use Rattle.n2_outside.specs.Files.{file_at}
+use Rattle.n2_elf.specs.declared.image.Image.{Image}
+use Rattle.n2_elf.specs.declared.image.ElfFault.{ElfFault}
+use Rattle.n2_elf.specs.Reading.{has_magic, elf, raw_image}
+use Rattle.n2_board.specs.declared.ground.OpenFault.{OpenFault}
+use Rattle.n2_board.specs.Ground.{open_fault}
 use Rattle.n2_flat.specs.declared.machine.PlainEnd.{PlainEnd}
 use Rattle.n2_flat.specs.declared.machine.PlainFault.{PlainFault}
-use Rattle.n2_flat.specs.declared.machine.PlainFault.TheVariants.{Outside, Unbuilt as UnbuiltWord, NoMemory}
+use Rattle.n2_flat.specs.declared.machine.PlainFault.TheVariants.{Unbuilt as UnbuiltWord, NoMemory}
+use Rattle.n2_flat.specs.PlainBoard.{plain_board}
 use Rattle.n2_flat.specs.Machine.{plain}
 use Rattle.n2_flat.specs.Report.{flat_text, status_of}
 use Rattle.n2_top.specs.declared.answers.Answer.{Answer}
 use Rattle.n2_top.specs.Commands.{Command, Faulty, Unbuilt, Plain, command_of}
-use Rattle.n2_top.specs.Rows.{row, usage, unbuilt_word}
+use Rattle.n2_top.specs.Rows.{row, usage, unbuilt_word, image_row, image_fault, open_row}
 
 abbrev pub refused : ℕ → List ℕ → Answer
 refused status text = record { status = status; text = row text }
 
--- the first four bytes of an ELF file
-abbrev pub is_elf : List ℕ → Bool
-is_elf bytes = bytes_eq (take 4 bytes) (127 ∷ 69 ∷ 76 ∷ 70 ∷ [])
-
 -- what a run on the plain board gives; it never wants memory
 abbrev pub run_answer : Result PlainEnd PlainFault → Answer
 run_answer (Ok end) = record { status = status_of end.stop; text = flat_text end }
-run_answer (Err Outside) = refused 5 (codes "image 0 outside")
 run_answer (Err (UnbuiltWord pc word)) = refused 12 (unbuilt_word pc word)
 run_answer (Err NoMemory) = record { status = 8; text = [] }
 
--- an image of at most 16 MiB runs as raw bytes; ELF files are not built yet
+-- an image that fits the plain board runs on it
+abbrev pub open_answer : Option OpenFault → Image → ℕ → Answer
+open_answer None image steps = run_answer (plain image steps)
+open_answer (Some fault) image steps = refused 5 (open_row fault)
+
+abbrev pub image_answer : Result Image ElfFault → ℕ → Answer
+image_answer (Ok image) steps = open_answer (open_fault plain_board (image ∷ [])) image steps
+image_answer (Err fault) steps = refused 5 (image_fault 0 fault)
+
+-- the image of a file: one that begins as ELF files do is read as such, any other is raw bytes at an
+-- address
+abbrev pub image_of : List ℕ → ℕ → Result Image ElfFault
+image_of bytes at = if has_magic bytes then elf bytes else Ok (raw_image bytes at)
+
+-- an image file of at most 16 MiB on the plain board
 abbrev pub file_answer : Option (List ℕ) → ℕ → Answer
-file_answer None steps = refused 5 (codes "image 0 absent")
+file_answer None steps = refused 5 (image_row 0 (codes "absent"))
 file_answer (Some bytes) steps =
-    if nat_lt 16777216 (length bytes) then refused 5 (codes "image 0 too long")
-    else (if is_elf bytes then refused 12 (codes "unbuilt elf")
-    else run_answer (plain bytes steps))
+    if nat_lt 16777216 (length bytes) then refused 5 (image_row 0 (codes "too long"))
+    else image_answer (image_of bytes 0) steps
 
 -- the answer to a command
 abbrev pub answer_to : Command → List (List ℕ × List ℕ) → Answer

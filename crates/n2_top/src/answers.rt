@@ -1,17 +1,24 @@
 //! What the tool answers to its words: a status and the whole text.
 
-ghost use Rattle.std.specs.Prelude.{◌≡◌, ◌≢◌, ℕ, ◌≤◌, ◌<◌, ◌++◌, ◌∷◌, [], map, take, length, codes, string_bytes, Some, None, List, IfOk, IsErrOf, IsTrue, IfSome};
+ghost use Rattle.std.specs.Prelude.{◌≡◌, ◌≢◌, ℕ, ◌≤◌, ◌<◌, ◌^◌, ◌∷◌, [], map, length, string_bytes, Some, None, Ok, Err, List, IfOk, IfErr, IsErrOf, IsTrue, IfSome};
 ghost use Rattle.n2_outside.specs.Faults.{Rose};
+ghost use Rattle.n2_elf.specs.Reading.{IsSized};
+ghost use Rattle.n2_board.specs.Ground.{open_fault};
+ghost use Rattle.n2_flat.specs.PlainBoard.{plain_board, plain_ground};
 ghost use Rattle.n2_flat.specs.Machine.{plain};
 ghost use Rattle.n2_top.specs.Commands.{Plain, two_words, three_words, steps_of};
-ghost use Rattle.n2_top.specs.Answers.{answer_to, file_answer, run_answer, refused, is_elf, is_final, answer_of};
-ghost use Rattle.n2_top.specs.Rows.{row, usage, unbuilt_word};
+ghost use Rattle.n2_top.specs.Answers.{answer_to, file_answer, image_of, open_answer, run_answer, refused, is_final, answer_of};
+ghost use Rattle.n2_top.specs.Rows.{usage, unbuilt_word, image_row, image_fault, open_row};
 
-use n2_flat::{PlainFault, plain_run, plain_text, status};
+use crate::rows::{put_image_fault, put_image_row, put_open_row};
+use n2_board::{Layout, OpenFault};
+use n2_elf::{ElfFault, Image};
+use n2_flat::{PlainFault, plain_board, plain_run, plain_text, status};
 use n2_outside::{FetchFault, Folder};
 use n2_text::{Items, numeral_up_to, put_text, put_word};
 use n2_word::NoMemory;
 use std::alloc::Global;
+use std::slice;
 
 /// A status, and all that is written.
 #[derive(Debug, Drop)]
@@ -86,26 +93,75 @@ fn refuse_word(alloc: Global, pc: u32, word: u32) -> Result<Answer, NoMemory>
     refuse(alloc, 12, &text)
 }
 
-/// The flat report of an image's run on the plain board.
-fn run(alloc: Global, bytes: &[u8], steps: u32) -> Result<Answer, NoMemory>
-    ensures answer { IfOk result (λ a. a ≡ run_answer (plain bytes.now steps)) }
+/// A refusal of what is wrong with the image.
+fn refuse_image(alloc: Global, cause: &[u8]) -> Result<Answer, NoMemory>
+    ensures { IfOk result (λ a. a ≡ refused 5 (image_row 0 cause.now)) }
+{
+    let mut text = Vec::new(alloc);
+    put_image_row(&mut text, 0, cause)?;
+    refuse(alloc, 5, &text)
+}
+
+fn refuse_file(alloc: Global, fault: &ElfFault) -> Result<Answer, NoMemory>
+    ensures { IfOk result (λ a. a ≡ refused 5 (image_fault 0 fault.now)) }
+{
+    let mut text = Vec::new(alloc);
+    put_image_fault(&mut text, 0, fault)?;
+    refuse(alloc, 5, &text)
+}
+
+fn refuse_open(alloc: Global, fault: OpenFault) -> Result<Answer, NoMemory>
+    ensures { IfOk result (λ a. a ≡ refused 5 (open_row fault)) }
+{
+    let mut text = Vec::new(alloc);
+    put_open_row(&mut text, fault)?;
+    refuse(alloc, 5, &text)
+}
+
+/// The flat report of an image's run on the plain board, whose layout with the image is given.
+fn run(alloc: Global, image: &Image, layout: &Layout, steps: u32) -> Result<Answer, NoMemory>
+    requires sized { IsSized image.now }
+    requires fits { open_fault plain_board (image.now ∷ []) ≡ None }
+    requires opened { layout.now ≡ plain_ground image.now }
+    ensures answer { IfOk result (λ a. a ≡ run_answer (plain image.now steps)) }
     ensures status { IfOk result (λ a. IsTrue (is_final a.status)) }
 {
-    match plain_run(alloc, bytes, steps) {
+    match plain_run(alloc, image, layout, steps) {
         Ok(end) => {
             let text = plain_text(alloc, &end)?;
             Ok(made(status(&end.stop), text))
         }
-        Err(PlainFault::Outside) => refuse(alloc, 5, b"image 0 outside"),
         Err(PlainFault::Unbuilt { pc, word }) => refuse_word(alloc, pc, word),
         Err(PlainFault::NoMemory) => Err(NoMemory),
     }
 }
 
-fn is_elf_file(bytes: &[u8]) -> bool
-    ensures { result ≡ is_elf bytes.now }
+/// `plain` over an image: its run, or the first thing in which it does not fit the plain board.
+fn answer_image(alloc: Global, image: &Image, steps: u32) -> Result<Answer, NoMemory>
+    requires { IsSized image.now }
+    ensures answer { IfOk result (λ a. a ≡ open_answer (open_fault plain_board (image.now ∷ [])) image.now steps) }
+    ensures status { IfOk result (λ a. IsTrue (is_final a.status)) }
 {
-    bytes.len() >= 4 && &bytes[..4] == b"\x7fELF".as_slice()
+    let board = plain_board(alloc)?;
+    match Layout::open(alloc, &board, slice::from_ref(image)) {
+        Ok(layout) => run(alloc, image, &layout, steps),
+        Err(OpenFault::NoMemory) => Err(NoMemory),
+        Err(fault) => refuse_open(alloc, fault),
+    }
+}
+
+/// The image of a file: an ELF file's, or else raw bytes at an address.
+fn image_in(alloc: Global, bytes: &[u8], at: u32) -> Result<Image, ElfFault>
+    requires { length bytes.now < 2 ^ 32 }
+    ensures ok { IfOk result (λ image. image_of bytes.now at ≡ Ok image) }
+    ensures sized { IfOk result (λ image. IsSized image) }
+    ensures fault { IfErr result (λ fault. fault ≢ ElfFault.NoMemory → image_of bytes.now at ≡ Err fault) }
+{
+    if Image::is_elf(bytes) {
+        Image::read(alloc, bytes)
+    } else {
+        Image::raw(alloc, bytes, at)
+    }
 }
 
 /// `plain` over a file that was fetched.
@@ -114,10 +170,11 @@ fn answer_file(alloc: Global, bytes: &[u8], steps: u32) -> Result<Answer, NoMemo
     ensures answer { IfOk result (λ a. a ≡ file_answer (Some bytes.now) steps) }
     ensures status { IfOk result (λ a. IsTrue (is_final a.status)) }
 {
-    if is_elf_file(bytes) {
-        return refuse(alloc, 12, b"unbuilt elf");
+    match image_in(alloc, bytes, 0) {
+        Ok(image) => answer_image(alloc, &image, steps),
+        Err(ElfFault::NoMemory) => Err(NoMemory),
+        Err(fault) => refuse_file(alloc, &fault),
     }
-    run(alloc, bytes, steps)
 }
 
 /// A number of acts.
@@ -143,8 +200,8 @@ fn answer_plain<F: Folder>(
 {
     match folder.fetch(alloc, file, IMAGE_BYTES) {
         Ok(bytes) => Ok(answer_file(alloc, &bytes, steps)?),
-        Err(FetchFault::Absent) => Ok(refuse(alloc, 5, b"image 0 absent")?),
-        Err(FetchFault::TooLong) => Ok(refuse(alloc, 5, b"image 0 too long")?),
+        Err(FetchFault::Absent) => Ok(refuse_image(alloc, b"absent")?),
+        Err(FetchFault::TooLong) => Ok(refuse_image(alloc, b"too long")?),
         Err(FetchFault::Failed) => Err(AnswerFault::ReadFault),
         Err(FetchFault::NoMemory) => Err(AnswerFault::NoMemory),
     }

@@ -2,6 +2,7 @@
 #![tactic(auto)]
 
 mod answers;
+mod rows;
 
 ghost use Rattle.std.specs.Prelude.{◌≡◌, ℕ, ◌⊎◌, List, Option, map, string_bytes, IfSome, IsTrue};
 ghost use Rattle.n2_outside.specs.Faults.{Rose};
@@ -17,7 +18,8 @@ use std::alloc::Global;
 /// * 0: done, and the core broke; 1: done, and an access was refused or strayed; 2: done, and the
 ///   core runs on.
 /// * 3: the words are none of the table.
-/// * 5: the image is absent, longer than 16 MiB, or outside of the memory.
+/// * 5: the image is absent, longer than 16 MiB, no sound ELF file though it begins as one, or does
+///   not fit the board: a segment or its entry is outside of the memory.
 /// * 6: a file could not be fetched. 7: a put failed. 8: no memory was left.
 /// * 12: what was asked for is not built yet.
 ///

@@ -1,22 +1,13 @@
-use Rattle.std.proofs.Common.{◌≡◌, ap, length, ◌∙◌, arith}
-use Rattle.std.proofs.lemmas.Bool.Decides.{nat_tests}
-use Rattle.n2_flat.specs.Machine.{plain, retired_times, end_of, flat}
-use Rattle.n2_flat.proofs.Words.{length-image_words}
-use Rattle.n2_flat.proofs.Acts.{plain-fits, AnswersTo-carried}
+use Rattle.std.proofs.Common.{◌≡◌, ℕ, length, ap, sym, subst, ◌∙◌}
+use Rattle.n2_board.specs.Ground.{Ground}
+use Rattle.n2_flat.specs.Machine.{HasMemory}
+use Rattle.n2_flat.proofs.PlainBoard.{fits_inside, memory_places, memory_len}
 use Rattle.n2_flat.proofs.machine.plain_run.Goals as goal
 
-pub returns-then-bytes-gt-MEMORY_BYTES : goal.returns-then-bytes-gt-MEMORY_BYTES
-unfolding plain
-returns-then-bytes-gt-MEMORY_BYTES c = grind (arith, nat_tests)
+pub open_memory-requires-clause-inside : goal.open_memory-requires-clause-inside
+open_memory-requires-clause-inside c = fits_inside c.args.image.now c.requires.fits
 
 pub run-requires : goal.run-requires
-run-requires c = ap length (c.deref_mut.ensures.value ∙ c.in-Ok.ensures) ∙ length-image_words c.args.bytes.now 0 16384
-
-pub returns-in-Ok-run : goal.returns-in-Ok-run
-returns-in-Ok-run c =
-    plain-fits c.args.bytes.now c.deref_mut.result.now c.args.steps c.in-Ok-start.end (omega arith) (c.deref_mut.ensures.value ∙ c.in-Ok.ensures) c.in-Ok-start.ensures ∙ ap end_of c.in-Ok-run.ensures
-
-pub returns : goal.returns
-returns c =
-    let same : plain c.args.bytes.now c.args.steps ≡ end_of (retired_times c.args.steps (flat c.deref_mut.result.now c.in-Ok-start.end)) = plain-fits c.args.bytes.now c.deref_mut.result.now c.args.steps c.in-Ok-start.end (omega arith) (c.deref_mut.ensures.value ∙ c.in-Ok.ensures) c.in-Ok-start.ensures in
-    AnswersTo-carried _ _ (λ fault wrong. same ∙ ap end_of wrong) c.in-Err.fault c.in-Err.ensures
+run-requires c =
+    let words : length c.deref_mut.result.now ≡ 16384 = ap length (c.deref_mut.ensures.value ∙ c.in-Ok.ensures) ∙ memory_len 16384 c.args.image.now in
+    subst (λ (n : ℕ). HasMemory c.args.layout.now n) (sym words) (subst (λ (g : Ground). HasMemory g 16384) (sym c.requires.opened) (memory_places c.args.image.now))

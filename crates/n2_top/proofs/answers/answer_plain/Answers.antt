@@ -1,4 +1,4 @@
-use Rattle.std.proofs.Common.{sym, ◌∙◌, ap}
+use Rattle.std.proofs.Common.{◌∙◌, ap}
 use Rattle.n2_top.specs.Answers.{file_answer}
 use Rattle.std.specs.Prelude.{Some}
 use Rattle.n2_top.proofs.Told.{told_file}

@@ -1,4 +1,4 @@
-use Rattle.std.proofs.Common.{string_bytes, Global, sym, ◌∙◌, ap, arith}
+use Rattle.std.proofs.Common.{string_bytes, Global, ◌∙◌, ap, arith}
 use Rattle.n2_top.specs.Commands.{two_words}
 use Rattle.n2_top.specs.Answers.{answer_to}
 use Rattle.n2_top.proofs.Told.{told_two_words}

@@ -1,0 +1,72 @@
+-- The plain board is valid, and images that fit it are inside its memory.
+use Rattle.std.proofs.Common.{◌≡◌, ℕ, ◌*◌, ◌/◌, ◌<◌, Bool, true, false, cond, List, [], ◌∷◌, ◌++◌, length, map, Option, Some, None, refl, arith}
+use Rattle.std.specs.List.{AllByRecursion}
+use Rattle.std.proofs.lemmas.Bool.Decides.{nat_tests}
+use Rattle.n2_elf.specs.declared.image.Segment.{Segment}
+use Rattle.n2_elf.specs.declared.image.Image.{Image}
+use Rattle.n2_board.specs.declared.ground.Place.{Place}
+use Rattle.n2_board.specs.declared.ground.Place.TheVariants.{Memory, Device, Nothing}
+use Rattle.n2_board.specs.declared.ground.OpenFault.{OpenFault}
+use Rattle.n2_board.specs.Parts.{or_else, unless, first_from, first_part}
+use Rattle.n2_board.specs.Numbers.{top_numbers, memory_numbers, core_numbers, uart_numbers, region_numbers, number_fault}
+use Rattle.n2_board.specs.Rules.{bytes_from, is_inside, name_fault, same_name, same_cpuid, core_fault, part_fault, overlap, inside_fault}
+use Rattle.n2_board.specs.Valid.{counts, totals, name_faults, place_faults, early_faults, late_faults, first_fault, IsValid}
+use Rattle.n2_board.specs.declared.ground.OpenFault.TheVariants.{Outside}
+use Rattle.n2_board.specs.declared.ground.Class.{Class}
+use Rattle.n2_board.specs.declared.ground.Extent.{Extent}
+use Rattle.n2_board.specs.declared.cut.Cut.TheVariants.{Stray}
+use Rattle.n2_board.specs.Ground.{Ground, kind_zones, place_zones, place_in, place, ground_of, extent_of, extents_from, outside, misfit, open_fault}
+use Rattle.n2_board.specs.Cut.{fetch_from, fetch_cut}
+use Rattle.n2_flat.specs.Memory.{IsInside, memory_of}
+use Rattle.n2_flat.proofs.Words.{length-words_from}
+use Rattle.n2_flat.specs.PlainBoard.{plain_memory, plain_board, plain_ground}
+use Rattle.n2_flat.specs.Machine.{HasMemory}
+
+pub plain_valid : IsValid plain_board
+unfolding plain_board first_fault counts early_faults late_faults totals name_faults place_faults first_part first_from top_numbers memory_numbers core_numbers uart_numbers region_numbers number_fault name_fault same_name same_cpuid core_fault part_fault overlap inside_fault
+plain_valid = refl
+
+pub memory_places : (image : Image) → HasMemory (plain_ground image) 16384
+unfolding plain_board ground_of place_zones kind_zones place_in
+memory_places image address there = grind (arith, nat_tests)
+
+-- a fetch that nothing cuts off is from memory
+from_memory : (there : Place) (class : Class) → fetch_from there class ≡ None → there ≡ Memory
+from_memory Memory class h = refl
+from_memory (Device part offset) class h = absurd cc
+from_memory Nothing class h = absurd cc
+
+not_cut : (high : Bool) (there : Place) (class : Class) → cond high (Some Stray) (fetch_from there class) ≡ None → there ≡ Memory
+not_cut true there class h = absurd cc
+not_cut false there class h = from_memory there class h
+
+pub fetched_inside : (g : Ground) (words pc : ℕ) → HasMemory g words → fetch_cut g pc ≡ None → pc / 4 < words
+unfolding fetch_cut
+fetched_inside g words pc memory h = memory pc (not_cut _ (place g pc) _ h)
+
+-- ---- images that fit
+
+both : (a b : Option OpenFault) → or_else a b ≡ None → (a ≡ None) × (b ≡ None)
+both None b h = (refl, h)
+both (Some fault) b h = absurd cc
+
+allowed : (good : Bool) (fault : OpenFault) → unless good fault ≡ None → good ≡ true
+allowed true fault h = refl
+allowed false fault h = absurd cc
+
+within : (s : Segment) → is_inside (plain_memory ∷ []) (bytes_from s.at s.size) ≡ true → IsInside (4 * 16384) s
+within s h = grind (arith, nat_tests)
+
+all_within : (segments : List Segment) (rest : List Extent) → outside (plain_memory ∷ []) (map (extent_of 0) segments ++ rest) ≡ None → AllByRecursion (λ s. IsInside (4 * 16384) s) segments
+all_within [] rest h = tt
+all_within (s ∷ segments) rest h =
+    let parts = both (unless (is_inside (plain_memory ∷ []) (bytes_from s.at s.size)) (Outside 0)) (outside (plain_memory ∷ []) (map (extent_of 0) segments ++ rest)) h in
+    (within s (allowed _ (Outside 0) parts.0), all_within segments rest parts.1)
+
+pub fits_inside : (image : Image) → open_fault plain_board (image ∷ []) ≡ None → AllByRecursion (λ s. IsInside (4 * 16384) s) image.segments
+unfolding plain_board misfit extents_from
+fits_inside image h = all_within image.segments [] (both _ _ h).0
+
+pub memory_len : (count : ℕ) (image : Image) → length (memory_of count image) ≡ count
+unfolding memory_of
+memory_len count image = length-words_from _ 0 count

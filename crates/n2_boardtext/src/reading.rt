@@ -85,7 +85,7 @@ fn board_in(alloc: Global, tree: &Table) -> Result<Board, TextFault>
 /// TOML; then an unknown key of the board; then the board's keys in order; then the arrays in order,
 /// in each of them the tables in order, in a table an unknown key and then its keys in order, and at
 /// a key `Missing`, `Kind`, `Range` and `NoPart`; and last the first rule that the board breaks. The
-/// arrays, their keys and the defaults are listed in docs/BOARDS.md.
+/// keys of each array, what they hold and their defaults are those of `specs/Keys.antt`.
 #[tactic(auto, unfolding(crate::specs::Reading::text_board))]
 pub fn read(alloc: Global, text: &[u8]) -> Result<Board, TextFault>
     ensures board { IfOk result (λ board. text_board text.now ≡ Ok board) }

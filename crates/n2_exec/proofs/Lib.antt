@@ -1,4 +1,5 @@
 pub mod Proper
+pub mod Bits
 pub mod Sizes
 pub mod Words
 pub mod Fetched

@@ -13,6 +13,12 @@ pub record Follows (regs next : Regs) : Type 0 where
   pub count : length next.gpr ≡ length regs.gpr
   pub aligned : regs.pc % 4 ≡ 0 → next.pc % 4 ≡ 0
 
+-- status, estatus and bstatus have bit 0 alone
+pub record HasBits (regs : Regs) : Type 0 where
+  pub status : regs.status < 2
+  pub estatus : regs.estatus < 2
+  pub bstatus : regs.bstatus < 2
+
 -- a fact for the registers of an outcome that goes on to the next instruction
 abbrev pub IfNext : Outcome → (Regs → Type 0) → Type 0
 IfNext (Next regs) P = P regs

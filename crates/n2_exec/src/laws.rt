@@ -10,7 +10,7 @@ ghost use Rattle.n2_exec.specs.declared.Regs.{Regs};
 ghost use Rattle.n2_exec.specs.Registers.{AreWords, loaded_regs, passed_regs, raised};
 ghost use Rattle.n2_exec.specs.Outcomes.{IsProper, loaded_value};
 ghost use Rattle.n2_exec.specs.Effect.{effect_of, effect_of_word};
-ghost use Rattle.n2_exec.specs.Follow.{Follows, IfNext, HasWords};
+ghost use Rattle.n2_exec.specs.Follow.{Follows, HasBits, IfNext, HasWords};
 
 /// An access of a valid instruction is aligned for its width, the register that a load writes is
 /// below 32, and a stored value fits its width.
@@ -25,6 +25,14 @@ pub fn every_next()
     ensures passed { (regs : Regs) → Follows regs (passed_regs regs) }
     ensures loaded { (regs : Regs) (to value : ℕ) → Follows regs (loaded_regs regs to value) }
     ensures raised { (regs : Regs) → regs.vector % 4 ≡ 0 → Follows regs (raised regs) }
+{}
+
+/// The status registers keep bit 0 alone, after an instruction, a load, an exception or an interrupt.
+pub fn every_status()
+    ensures effect { (regs : Regs) (insn : Insn) → HasBits regs → IfNext (effect_of regs insn) HasBits }
+    ensures passed { (regs : Regs) → HasBits regs → HasBits (passed_regs regs) }
+    ensures loaded { (regs : Regs) (to value : ℕ) → HasBits regs → HasBits (loaded_regs regs to value) }
+    ensures raised { (regs : Regs) → HasBits regs → HasBits (raised regs) }
 {}
 
 /// Where registers are of 32 bits, so are those after an instruction, a load, an exception or an

@@ -5,3 +5,4 @@ pub mod Found
 pub mod Sound
 pub mod Joining
 pub mod Meeting
+pub mod Owners

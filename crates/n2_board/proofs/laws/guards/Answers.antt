@@ -1,6 +1,7 @@
-use Rattle.std.proofs.Common.{◌≡◌, ℕ, IsTrue, refl, ap, sym, ◌∙◌}
-use Rattle.std.proofs.lemmas.Bool.{eqb-true, eq-eqb, and_parts, false≢true}
-use Rattle.n2_board.specs.Guards.{Guard, OfMutex, OfRegion, Holder, ByCore, ByMailbox, same_guard, owns_region}
+use Rattle.std.proofs.Common.{◌≡◌, ℕ, IsTrue, refl, ap}
+use Rattle.std.proofs.lemmas.Bool.{eqb-true, eq-eqb, false≢true}
+use Rattle.n2_board.specs.Guards.{Guard, OfMutex, OfRegion, same_guard}
+use Rattle.n2_board.proofs.Owners.{one_cpuid}
 use Rattle.n2_board.proofs.laws.guards.Goals as goal
 
 one : (g h : Guard) → IsTrue (same_guard g h) → g ≡ h
@@ -13,10 +14,6 @@ itself : (g : Guard) → IsTrue (same_guard g g)
 itself (OfMutex m) = eq-eqb m m refl
 itself (OfRegion r) = eq-eqb r r refl
 
-holds_one : (holder : Holder) (a b : ℕ) → IsTrue (owns_region holder a) → IsTrue (owns_region holder b) → a ≡ b
-holds_one (ByCore core) a b p q = sym (eqb-true core a p) ∙ eqb-true core b q
-holds_one (ByMailbox mailbox) a b p q = absurd (false≢true p)
-
 pub returns-clause-equal : goal.returns-clause-equal
 returns-clause-equal c = one
 
@@ -24,7 +21,4 @@ pub returns-clause-itself : goal.returns-clause-itself
 returns-clause-itself c = itself
 
 pub returns-clause-mutex : goal.returns-clause-mutex
-returns-clause-mutex c = λ register a b p q. sym (eqb-true _ a (and_parts _ _ p).0) ∙ eqb-true _ b (and_parts _ _ q).0
-
-pub returns-clause-region : goal.returns-clause-region
-returns-clause-region c = holds_one
+returns-clause-mutex c = one_cpuid

@@ -1,5 +1,5 @@
 -- The commands of the tool, by their words.
-use Rattle.std.specs.Prelude.{ℕ, List, [], ◌∷◌, Option, Some, None, ◌==◌, ◌||◌, if◌then◌else◌, codes}
+use Rattle.std.specs.Prelude.{ℕ, List, [], ◌∷◌, Bool, true, false, Option, Some, None, ◌==◌, ◌||◌, if◌then◌else◌, codes}
 use Rattle.std.specs.Str.{bytes_eq}
 use Rattle.n2_text.specs.Fields.{numeral, at_most}
 
@@ -41,3 +41,8 @@ abbrev pub command_of : List (List ℕ) → Command
 command_of (name ∷ first ∷ second ∷ []) = three_words name first second
 command_of (name ∷ first ∷ []) = two_words name
 command_of words = Faulty
+
+-- a command that reads files
+abbrev pub reads_files : Command → Bool
+reads_files (Plain file steps) = true
+reads_files _ = false

@@ -1,12 +1,12 @@
 //! What the tool answers to its words: a status and the whole text.
 
-ghost use Rattle.std.specs.Prelude.{◌≡◌, ◌≢◌, ℕ, ◌≤◌, ◌<◌, ◌^◌, ◌∷◌, [], map, length, string_bytes, Some, None, Ok, Err, List, IfOk, IfErr, IsErrOf, IsTrue, IfSome};
+ghost use Rattle.std.specs.Prelude.{◌≡◌, ◌≢◌, ℕ, ◌≤◌, ◌<◌, ◌^◌, ◌∷◌, [], map, length, string_bytes, Some, None, Ok, Err, List, IfOk, IfErr, IsErrOf, IsTrue, IfSome, false};
 ghost use Rattle.n2_outside.specs.Faults.{Rose};
 ghost use Rattle.n2_elf.specs.Reading.{IsSized};
 ghost use Rattle.n2_board.specs.Ground.{open_fault};
 ghost use Rattle.n2_flat.specs.PlainBoard.{plain_board, plain_ground};
 ghost use Rattle.n2_flat.specs.Machine.{plain};
-ghost use Rattle.n2_top.specs.Commands.{Plain, two_words, three_words, steps_of};
+ghost use Rattle.n2_top.specs.Commands.{Plain, command_of, two_words, three_words, steps_of, reads_files};
 ghost use Rattle.n2_top.specs.Answers.{answer_to, file_answer, image_of, open_answer, run_answer, refused, is_final, answer_of};
 ghost use Rattle.n2_top.specs.Rows.{usage, unbuilt_word, image_row, image_fault, open_row};
 
@@ -217,6 +217,7 @@ fn answer_three<F: Folder>(
     folder: &mut F,
 ) -> Result<Answer, AnswerFault>
     ensures answer { IfOk result (λ a. IfSome (F.files folder.old) (λ files. a ≡ answer_to (three_words name.now first.now second.now) files)) }
+    ensures unread { reads_files (three_words name.now first.now second.now) ≡ false → folder.new ≡ folder.old }
     ensures status { IfOk result (λ a. IsTrue (is_final a.status)) }
     ensures fault { IsErrOf result AnswerFault.ReadFault → Rose (F.faults folder.old) (F.faults folder.new) }
 {
@@ -251,6 +252,7 @@ pub fn answer_words<F: Folder>(
     folder: &mut F,
 ) -> Result<Answer, AnswerFault>
     ensures answer { IfOk result (λ a. IfSome (F.files folder.old) (λ files. a ≡ answer_of (map string_bytes words.now) files)) }
+    ensures unread { reads_files (command_of (map string_bytes words.now)) ≡ false → folder.new ≡ folder.old }
     ensures status { IfOk result (λ a. IsTrue (is_final a.status)) }
     ensures fault { IsErrOf result AnswerFault.ReadFault → Rose (F.faults folder.old) (F.faults folder.new) }
 {

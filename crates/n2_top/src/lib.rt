@@ -4,9 +4,10 @@
 mod answers;
 mod rows;
 
-ghost use Rattle.std.specs.Prelude.{◌≡◌, ℕ, ◌⊎◌, List, Option, map, string_bytes, IfSome, IsTrue};
+ghost use Rattle.std.specs.Prelude.{◌≡◌, ℕ, ◌⊎◌, List, Option, map, string_bytes, IfSome, IsTrue, false};
 ghost use Rattle.n2_outside.specs.Faults.{Rose};
 ghost use Rattle.n2_outside.specs.Bytes.{appended, PutsFront};
+ghost use Rattle.n2_top.specs.Commands.{command_of, reads_files};
 ghost use Rattle.n2_top.specs.Answers.{answer_of, read_fault, is_final};
 
 use answers::{AnswerFault, answer_words};
@@ -25,7 +26,8 @@ use std::alloc::Global;
 ///
 /// Over a folder that tells its files, every status but 6, 7 and 8 is that of the answer to the
 /// words, and the answer's text is put whole to `out`. With 6 the row `read fault` is put, with 7 a
-/// front of the text, and with 8 nothing. Nothing is put to `journal`. All texts are made before the
+/// front of the text, and with 8 nothing. Nothing is fetched for words that name no file or a command
+/// that is not built yet, and nothing is put to `journal`. All texts are made before the
 /// first byte is put.
 pub fn tool_top<F: Folder, S: Sink, L: Sink>(
     alloc: Global,
@@ -36,6 +38,7 @@ pub fn tool_top<F: Folder, S: Sink, L: Sink>(
 ) -> u8
     ensures answered { IfSome (F.files folder.old) (λ files. IsTrue (is_final result) → (result ≡ (answer_of (map string_bytes words.now) files).status) × (S.told out.new ≡ appended (S.told out.old) (answer_of (map string_bytes words.now) files).text)) }
     ensures complete { IfSome (F.files folder.old) (λ files. ¬ Rose (F.faults folder.old) (F.faults folder.new) → ¬ Rose (S.faults out.old) (S.faults out.new) → (result ≡ 8) ⊎ (result ≡ (answer_of (map string_bytes words.now) files).status)) }
+    ensures unread { reads_files (command_of (map string_bytes words.now)) ≡ false → folder.new ≡ folder.old }
     ensures fetch_failed { result ≡ 6 → Rose (F.faults folder.old) (F.faults folder.new) × (S.told out.new ≡ appended (S.told out.old) read_fault.text) }
     ensures put_failed { result ≡ 7 → Rose (S.faults out.old) (S.faults out.new) }
     ensures front { IfSome (F.files folder.old) (λ files. result ≡ 7 → PutsFront (S.told out.old) (S.told out.new) (answer_of (map string_bytes words.now) files).text ⊎ (Rose (F.faults folder.old) (F.faults folder.new) × PutsFront (S.told out.old) (S.told out.new) read_fault.text)) }

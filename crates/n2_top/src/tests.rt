@@ -400,3 +400,98 @@ fn runs_a_program_with_its_data(rt: HostRuntime) -> Result<(), Fail> {
     );
     Ok(())
 }
+
+// A program that sends the CRC-32 of a text: its code, its read-only texts, and the polynomial with
+// room for the sum behind it. The words are those of examples/crc.
+const CHECKSUM: [Part; 3] = [
+    Part {
+        at: 0x40,
+        words: &[
+            0x0200_0074,
+            0x0320_0014,
+            0x62c0_0017,
+            0x6180_0117,
+            0x0110_0004,
+            0x0000_0c00,
+            0x0250_0204,
+            0x02bf_ffc4,
+            0x4880_0003,
+            0x1000_0a26,
+            0x4a40_0044,
+            0x5094_f03a,
+            0x00c0_0204,
+            0x5100_004c,
+            0x5014_d07a,
+            0x2000_0126,
+            0x52d4_f03a,
+            0x18ff_ffc4,
+            0x183f_fa1e,
+            0x003f_f406,
+            0x5014_303a,
+            0x6280_0115,
+            0x00c0_0204,
+            0x5014_113a,
+            0x5100_03cc,
+            0x2150_0803,
+            0x4140_0035,
+            0x18ff_ffc4,
+            0x183f_fa1e,
+            0x0140_0284,
+            0x4140_0035,
+            0x003d_a03a,
+            0x2140_0003,
+            0x2800_0326,
+            0x4140_0035,
+            0x2100_0044,
+            0x003f_fb06,
+            0xf800_283a,
+        ],
+        size: 152,
+        flags: 5,
+    },
+    Part {
+        at: 0x4000,
+        words: &[
+            0x3363_7263,
+            0x0000_2032,
+            0x3433_3231,
+            0x3837_3635,
+            0x0000_0039,
+            0x0000_0000,
+            0x0000_0000,
+            0x0000_0000,
+            0x3332_3130,
+            0x3736_3534,
+            0x6261_3938,
+            0x6665_6463,
+        ],
+        size: 48,
+        flags: 4,
+    },
+    Part {
+        at: 0x8000,
+        words: &[0xedb8_8320],
+        size: 32,
+        flags: 6,
+    },
+];
+
+#[test]
+fn sends_a_checksum(rt: HostRuntime) -> Result<(), Fail> {
+    let alloc = rt.alloc();
+    // the check value of CRC-32 is cbf43926
+    let want = "nios2 flat 1
+core 0 broke 000000bc
+r0 00000000 00000000 00000000 00000000 00000006 0000000a 00000000 00000000
+r8 00010000 00004011 cbf43926 edb88320 00008000 00000000 00000000 00000000
+r16 00000000 00000000 00000000 00000000 00000000 00000000 00000000 00000000
+r24 00000000 00000000 00000000 00000000 00000000 00000000 00000000 00000058
+ctl 00000000 00000000 00000000 00000000 00000000
+uart u0 15 63726333322063626634333932360a
+verdict certified
+";
+    let (status, text) = plain_of(alloc, elf_file(alloc, 0x40, &CHECKSUM)?, "10000")?;
+    assert_eq!(rt; status, 0);
+    assert_eq!(rt; text.as_slice(), want.as_bytes());
+    Ok(())
+}

@@ -29,3 +29,8 @@ numeral (c ∷ cs) = if c == 48 then (if length cs == 0 then Some 0 else None) e
 abbrev pub at_most : ℕ → Option ℕ → Option ℕ
 at_most most None = None
 at_most most (Some n) = if nat_le n most then Some n else None
+
+-- a number where it is not 0
+abbrev pub from_one : Option ℕ → Option ℕ
+from_one None = None
+from_one (Some n) = if n == 0 then None else Some n

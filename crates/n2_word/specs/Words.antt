@@ -49,3 +49,11 @@ signed_half half = if nat_lt half (2 ^ 15) then half else half + (2 ^ 32 - 2 ^ 1
 -- the low bits of a value, as many as the width has
 abbrev pub low_bits : Width → ℕ → ℕ
 low_bits width value = value % 2 ^ (8 * size width)
+
+-- a bit as a number
+abbrev pub bit_of : Bool → ℕ
+bit_of on = if on then 1 else 0
+
+-- whether a word has a bit set
+abbrev pub has_bit : ℕ → ℕ → Bool
+has_bit word bit = word / 2 ^ bit % 2 == 1

@@ -6,8 +6,8 @@ use Rattle.std.proofs.lemmas.Grind.{common_steps}
 use Rattle.std.proofs.lemmas.List.{take-append-drop}
 use Rattle.std.proofs.lemmas.List.Elements.{Contains-append_left, Contains-append_right}
 use Rattle.std.proofs.lemmas.List.Sorted.{Contains-permutation}
-use Rattle.n2_board.specs.declared.spans.Span.{Span}
-use Rattle.n2_board.specs.Parts.{or_else}
+use Rattle.n2_parts.specs.declared.spans.Span.{Span}
+use Rattle.std.specs.Option.{option_or}
 use Rattle.n2_board.specs.Finding.{holds, first_holding, IsTable}
 use Rattle.n2_board.specs.Joining.{AreUpTo}
 
@@ -31,7 +31,7 @@ inside (a ∷ spans) point =
       | false ↦ next (first_holding spans point) (length spans) (inside spans point)
     ]
 
-further : (here behind : Option ℕ) (count : ℕ) → option_map (λ n. n + 1) (or_else here (option_map (λ n. n + count) behind)) ≡ or_else (option_map (λ n. n + 1) here) (option_map (λ n. n + suc count) behind)
+further : (here behind : Option ℕ) (count : ℕ) → option_map (λ n. n + 1) (option_or here (option_map (λ n. n + count) behind)) ≡ option_or (option_map (λ n. n + 1) here) (option_map (λ n. n + suc count) behind)
 further (Some n) behind count = refl
 further None None count = refl
 further None (Some n) count = let e : n + count + 1 ≡ n + suc count = omega arith in ap (λ (k : ℕ). Some k) e
@@ -40,12 +40,12 @@ unmoved : (o : Option ℕ) → o ≡ option_map (λ n. n + 0) o
 unmoved None = refl
 unmoved (Some n) = let e : n ≡ n + 0 = omega arith in ap (λ (k : ℕ). Some k) e
 
-first_holding-append : (a b : List Span) (point : ℕ) → first_holding (a ++ b) point ≡ or_else (first_holding a point) (option_map (λ n. n + length a) (first_holding b point))
+first_holding-append : (a b : List Span) (point : ℕ) → first_holding (a ++ b) point ≡ option_or (first_holding a point) (option_map (λ n. n + length a) (first_holding b point))
 unfolding first_holding
 first_holding-append [] b point = unmoved (first_holding b point)
 first_holding-append (s ∷ a) b point =
     let rest : Option ℕ = first_holding b point in
-    elim (holds s point) as (λ h. cond h (Some 0) (option_map (λ n. n + 1) (first_holding (a ++ b) point)) ≡ or_else (cond h (Some 0) (option_map (λ n. n + 1) (first_holding a point))) (option_map (λ n. n + suc (length a)) rest)) [
+    elim (holds s point) as (λ h. cond h (Some 0) (option_map (λ n. n + 1) (first_holding (a ++ b) point)) ≡ option_or (cond h (Some 0) (option_map (λ n. n + 1) (first_holding a point))) (option_map (λ n. n + suc (length a)) rest)) [
       | true ↦ refl
       | false ↦ ap (λ (o : Option ℕ). option_map (λ n. n + 1) o) (first_holding-append a b point) ∙ further (first_holding a point) rest (length a)
     ]
@@ -76,7 +76,7 @@ whole spans front back middle e h = ap (λ (s : List Span). s ++ back) e ∙ ap 
 
 -- ---- the look-up at rising points
 
-pub joint : (a b : List Span) (point : ℕ) (here behind one : Option ℕ) → one ≡ or_else here (option_map (λ n. n + length a) behind) → here ≡ first_holding a point → behind ≡ first_holding b point → one ≡ first_holding (a ++ b) point
+pub joint : (a b : List Span) (point : ℕ) (here behind one : Option ℕ) → one ≡ option_or here (option_map (λ n. n + length a) behind) → here ≡ first_holding a point → behind ≡ first_holding b point → one ≡ first_holding (a ++ b) point
 joint a b point here behind one e h k = e ∙ (rw (h, k) (sym (first_holding-append a b point)))
 
 pub found-more : (f : ℕ → Option ℕ) (points : List ℕ) (i : ℕ) (out new : List (Option ℕ)) (one : Option ℕ) → i < length points → out ≡ map f (take i points) → new ≡ out ++ one ∷ [] → one ≡ f (get_or points i 0) → new ≡ map f (take (i + 1) points)

@@ -1,8 +1,6 @@
-pub mod Steps
 pub mod Finding
 pub mod Zones
 pub mod Found
-pub mod Sound
 pub mod Joining
 pub mod Meeting
 pub mod Owners

@@ -3,9 +3,9 @@ use Rattle.std.proofs.Common.{◌≡◌, ℕ, ◌+◌, ◌<◌, ◌≤◌, min, 
 use Rattle.std.specs.List.{list_any}
 use Rattle.std.proofs.lemmas.Bool.{cases_lt, and_parts, and_from, or_cases, or_left, or_right, ltb-true, lt-ltb, leb-true, le-leb}
 use Rattle.std.proofs.lemmas.List.Folds.{Any-from_list_any, list_any-from_Any}
-use Rattle.n2_board.specs.declared.spans.Span.{Span}
+use Rattle.n2_parts.specs.declared.spans.Span.{Span}
 use Rattle.n2_board.specs.declared.ground.Extent.{Extent}
-use Rattle.n2_board.specs.Rules.{share}
+use Rattle.n2_parts.specs.Rules.{share}
 use Rattle.n2_board.specs.Finding.{holds, first_holding}
 use Rattle.n2_board.specs.Ground.{meets, meets_one, meets_from, images_meet}
 use Rattle.n2_board.specs.Meeting.{core_lines, begins, one_begins}

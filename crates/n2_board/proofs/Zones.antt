@@ -1,18 +1,25 @@
 -- One step of each loop over segments, regions and places.
-use Rattle.std.proofs.Common.{◌≡◌, ℕ, suc, ◌+◌, ◌-◌, ◌<◌, ◌≤◌, Bool, List, [], ◌∷◌, ◌++◌, length, get_or, drop, map, sym, ap, ◌∙◌, drop-cons, arith}
-use Rattle.std.proofs.lemmas.List.{drop_all}
+use Rattle.std.proofs.Common.{◌≡◌, ℕ, suc, ◌+◌, ◌-◌, ◌<◌, ◌≤◌, Bool, List, [], ◌∷◌, ◌++◌, length, get_or, drop, map, sym, ap, ◌∙◌, append_assoc, drop-cons, arith}
+use Rattle.std.proofs.lemmas.List.{append-nil, drop_all}
 use Rattle.n2_elf.specs.declared.image.Segment.{Segment}
 use Rattle.n2_elf.specs.declared.image.Image.{Image}
-use Rattle.n2_board.specs.declared.board.Board.{Board}
-use Rattle.n2_board.specs.declared.board.RegionRow.{RegionRow}
-use Rattle.n2_board.specs.declared.board.PartKind.{PartKind}
+use Rattle.n2_parts.specs.declared.board.Board.{Board}
+use Rattle.n2_parts.specs.declared.board.RegionRow.{RegionRow}
+use Rattle.n2_parts.specs.declared.board.PartKind.{PartKind}
 use Rattle.n2_board.specs.declared.ground.Extent.{Extent}
 use Rattle.n2_board.specs.declared.ground.LineZone.{LineZone}
 use Rattle.n2_board.specs.declared.ground.PlaceZone.{PlaceZone}
-use Rattle.n2_board.specs.Parts.{count_of, part_of}
-use Rattle.n2_board.specs.Rules.{spans_of}
+use Rattle.n2_parts.specs.Parts.{count_of, part_of}
+use Rattle.n2_parts.specs.Rules.{spans_of}
 use Rattle.n2_board.specs.Ground.{extent_of, extents_from, region_zone, region_zones, segment_zone, segment_zones, zones_at, kind_zones, place_zones}
-use Rattle.n2_board.proofs.Steps.{more, ended}
+
+-- what was put so far, and what is left
+more : {A : Type 0} (out new piece rest all whole : List A) → new ≡ out ++ piece → whole ≡ piece ++ rest → out ++ whole ≡ all → new ++ rest ≡ all
+more {A} out new piece rest all whole grown parts so_far =
+    ap (λ (x : List A). x ++ rest) grown ∙ append_assoc out piece rest ∙ ap (λ (x : List A). out ++ x) (sym parts) ∙ so_far
+
+ended : {A : Type 0} (out rest all : List A) → rest ≡ [] → out ++ rest ≡ all → out ≡ all
+ended {A} out rest all nothing so_far = sym (append-nil out) ∙ ap (λ (x : List A). out ++ x) (sym nothing) ∙ so_far
 
 next : {A : Type 0} (xs : List A) (i : ℕ) (x : A) → i < length xs → x ≡ get_or xs i x → drop i xs ≡ x ∷ drop (i + 1) xs
 next {A} xs i x lt here =

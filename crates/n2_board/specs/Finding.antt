@@ -2,7 +2,7 @@
 use Rattle.std.specs.Prelude.{◌≡◌, ℕ, ◌+◌, List, [], ◌∷◌, map, Bool, ◌&&◌, nat_lt, nat_le, if◌then◌else◌, Option, Some, None, option_map}
 use Rattle.std.specs.List.{AllByRecursion, Contains}
 use Rattle.std.specs.List.Sorted.{IsNonDecreasing}
-use Rattle.n2_board.specs.declared.spans.Span.{Span}
+use Rattle.n2_parts.specs.declared.spans.Span.{Span}
 
 abbrev pub holds : Span → ℕ → Bool
 holds a point = nat_le a.from point && nat_lt point a.end

@@ -2,17 +2,17 @@
 use Rattle.std.specs.Prelude.{ℕ, zero, suc, ◌+◌, ◌-◌, ◌/◌, ◌%◌, List, [], ◌∷◌, ◌++◌, length, map, Bool, true, false, not, ◌&&◌, ◌||◌, ◌==◌, nat_lt, if◌then◌else◌, Option, Some, None, unwrap_or, option_map, option_and_then, slice_get, ◌≡◌}
 use Rattle.n2_elf.specs.declared.image.Segment.{Segment}
 use Rattle.n2_elf.specs.declared.image.Image.{Image}
-use Rattle.n2_board.specs.declared.board.Board.{Board}
-use Rattle.n2_board.specs.declared.board.MemoryRow.{MemoryRow}
-use Rattle.n2_board.specs.declared.board.CoreRow.{CoreRow}
-use Rattle.n2_board.specs.declared.board.RegionRow.{RegionRow}
-use Rattle.n2_board.specs.declared.board.RegionClass.{RegionClass}
-use Rattle.n2_board.specs.declared.board.RegionClass.TheVariants as given
-use Rattle.n2_board.specs.declared.board.Part.{Part}
-use Rattle.n2_board.specs.declared.board.PartKind.{PartKind}
-use Rattle.n2_board.specs.declared.board.PartKind.TheVariants as kinds
-use Rattle.n2_board.specs.declared.spans.Span.{Span}
-use Rattle.n2_board.specs.declared.spans.Spans.{Spans}
+use Rattle.n2_parts.specs.declared.board.Board.{Board}
+use Rattle.n2_parts.specs.declared.board.MemoryRow.{MemoryRow}
+use Rattle.n2_parts.specs.declared.board.CoreRow.{CoreRow}
+use Rattle.n2_parts.specs.declared.board.RegionRow.{RegionRow}
+use Rattle.n2_parts.specs.declared.board.RegionClass.{RegionClass}
+use Rattle.n2_parts.specs.declared.board.RegionClass.TheVariants as given
+use Rattle.n2_parts.specs.declared.board.Part.{Part}
+use Rattle.n2_parts.specs.declared.board.PartKind.{PartKind}
+use Rattle.n2_parts.specs.declared.board.PartKind.TheVariants as kinds
+use Rattle.n2_parts.specs.declared.spans.Span.{Span}
+use Rattle.n2_parts.specs.declared.spans.Spans.{Spans}
 use Rattle.n2_board.specs.declared.ground.Class.{Class}
 use Rattle.n2_board.specs.declared.ground.Class.TheVariants.{Code, Private, Mutex, Passed, Uncached, Absent}
 use Rattle.n2_board.specs.declared.ground.Place.{Place}
@@ -24,8 +24,10 @@ use Rattle.n2_board.specs.declared.ground.LineZone.{LineZone}
 use Rattle.n2_board.specs.declared.ground.PlaceZone.{PlaceZone}
 use Rattle.n2_board.specs.declared.ground.OpenFault.{OpenFault}
 use Rattle.n2_board.specs.declared.ground.OpenFault.TheVariants.{Outside, EntryOutside, Overlap}
-use Rattle.n2_board.specs.Parts.{at_row, unless, or_else, first_of, first_from, devices, count_of, part_of}
-use Rattle.n2_board.specs.Rules.{bytes_from, share, spans_of, is_inside}
+use Rattle.std.specs.Option.{option_or}
+use Rattle.n2_text.specs.Firsts.{first_of, unless}
+use Rattle.n2_parts.specs.Parts.{at_row, first_from, devices, count_of, part_of}
+use Rattle.n2_parts.specs.Rules.{bytes_from, share, spans_of, is_inside}
 use Rattle.n2_board.specs.Finding.{holds}
 
 -- the lines of which so many bytes from an address on cover a byte
@@ -150,7 +152,7 @@ place g address = place_in g.places address
 -- the first segment that is not inside one memory
 abbrev pub outside : List MemoryRow → List Extent → Option OpenFault
 outside memories [] = None
-outside memories (e ∷ extents) = or_else (unless (is_inside memories e.bytes) (Outside e.core)) (outside memories extents)
+outside memories (e ∷ extents) = option_or (unless (is_inside memories e.bytes) (Outside e.core)) (outside memories extents)
 
 -- a core's first program counter: its reset address, or else its image's entry
 abbrev pub first_pc : CoreRow → ℕ → ℕ

@@ -1,7 +1,3 @@
-pub mod Parts
-pub mod Numbers
-pub mod Rules
-pub mod Valid
 pub mod Finding
 pub mod Ground
 pub mod Cut

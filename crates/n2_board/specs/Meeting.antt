@@ -1,7 +1,7 @@
 -- Whether the segments of two cores share a line, by the lines on which they begin.
 use Rattle.std.specs.Prelude.{ℕ, List, map, Bool, ◌&&◌, ◌==◌, nat_lt, is_some}
 use Rattle.std.specs.List.{filter, list_any}
-use Rattle.n2_board.specs.declared.spans.Span.{Span}
+use Rattle.n2_parts.specs.declared.spans.Span.{Span}
 use Rattle.n2_board.specs.declared.ground.Extent.{Extent}
 use Rattle.n2_board.specs.Finding.{first_holding}
 

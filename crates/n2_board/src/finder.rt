@@ -4,10 +4,10 @@ ghost use Rattle.std.specs.Prelude.{◌≡◌, ℕ, ◌+◌, ◌<◌, ◌≤◌,
 ghost use Rattle.std.specs.List.Sorted.{IsNonDecreasing, IsPermutation};
 ghost use Rattle.n2_board.specs.Finding as spec;
 ghost use Rattle.n2_board.specs.Finding.{IsTable};
-ghost use Rattle.n2_board.specs.Parts.{or_else};
+ghost use Rattle.std.specs.Option.{option_or};
 ghost use Rattle.n2_board.specs.Joining.{AreUpTo};
 
-use crate::spans::Span;
+use n2_parts::Span;
 use n2_word::NoMemory;
 use std::alloc::Global;
 use std::marker::Model;
@@ -23,7 +23,7 @@ pub struct Finder {
 
 impl Model for Finder {
     ghost use Rattle.std.specs.Prelude.{List};
-    ghost use Rattle.n2_board.specs.declared.spans.Span.{Span as SpanValue};
+    ghost use Rattle.n2_parts.specs.declared.spans.Span.{Span as SpanValue};
     ghost use Rattle.n2_board.specs.Finding.{IsTable};
 
     ghost Value = { List SpanValue };
@@ -172,7 +172,7 @@ fn both_bounds(alloc: Global, first: &[u64], second: &[u64]) -> Result<Vec<u64>,
 /// The number that is found in so many spans, or else in those behind them.
 fn either(here: Option<usize>, count: usize, behind: Option<usize>) -> Option<usize>
     requires { IfSome behind (λ n. n + count < 2 ^ 64) }
-    ensures { result ≡ or_else here (option_map (λ n. n + count) behind) }
+    ensures { result ≡ option_or here (option_map (λ n. n + count) behind) }
 {
     match here {
         Some(n) => Some(n),

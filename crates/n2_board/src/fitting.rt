@@ -3,15 +3,13 @@
 ghost use Rattle.std.specs.Prelude.{◌≡◌, ◌<◌, ◌^◌, IfOk, length};
 ghost use Rattle.n2_board.specs.Ground as spec;
 ghost use Rattle.n2_board.specs.Meeting as meeting;
-ghost use Rattle.n2_board.specs.Parts as parts;
-ghost use Rattle.n2_board.specs.Valid.{IsSmall};
+ghost use Rattle.n2_parts.specs.Parts as parts;
+ghost use Rattle.n2_parts.specs.Valid.{IsSmall};
 
-use crate::board::{Board, CoreRow, MemoryRow};
 use crate::finder::Finder;
 use crate::ground::{Extent, OpenFault};
-use crate::parts::row;
-use crate::spans::{Span, bytes_from, is_inside};
 use n2_elf::Image;
+use n2_parts::{Board, CoreRow, MemoryRow, Span, bytes_from, is_inside, row};
 use n2_word::NoMemory;
 use std::alloc::Global;
 

@@ -2,14 +2,14 @@
 
 ghost use Rattle.std.specs.Prelude.{◌≡◌, ◌+◌, ◌<◌, ◌≤◌, ◌^◌, ◌++◌, [], ◌∷◌, IfOk, OnOk, length, map};
 ghost use Rattle.n2_board.specs.Ground as spec;
-ghost use Rattle.n2_board.specs.Parts as parts;
-ghost use Rattle.n2_board.specs.Rules as rules;
-ghost use Rattle.n2_board.specs.Valid.{IsSmall};
+ghost use Rattle.n2_parts.specs.Parts as parts;
+ghost use Rattle.n2_parts.specs.Rules as rules;
+ghost use Rattle.n2_parts.specs.Valid.{IsSmall};
 
-use crate::board::{Board, Part, PartKind, RegionClass, RegionRow};
-use crate::parts::count_of;
-use crate::spans::{IN_PLACES, Span, spans_of};
 use n2_elf::{Image, Segment};
+use n2_parts::{
+    Board, IN_PLACES, Part, PartKind, RegionClass, RegionRow, Span, count_of, spans_of,
+};
 use n2_word::NoMemory;
 use std::alloc::Global;
 

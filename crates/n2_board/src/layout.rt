@@ -1,19 +1,17 @@
 //! A board with its images: the class of each line and the place of each address.
 
-ghost use Rattle.std.specs.Prelude.{◌≡◌, ◌≢◌, ◌<◌, ◌^◌, None, Some, IfOk, OnOk, IfErr, ◌∷◌, length, map};
+ghost use Rattle.std.specs.Prelude.{◌≡◌, ◌≢◌, ◌<◌, ◌^◌, None, Some, IfOk, OnOk, IfErr, ◌∷◌, length, map, option_map, slice_get};
 ghost use Rattle.n2_board.specs.Ground as spec;
-ghost use Rattle.n2_board.specs.Parts as parts;
-ghost use Rattle.n2_board.specs.Valid.{IsSmall, IsValid};
+ghost use Rattle.n2_parts.specs.Parts as parts;
+ghost use Rattle.n2_parts.specs.Valid.{IsSmall, IsValid};
 
-use crate::board::{Board, PartKind};
 use crate::finder::Finder;
 use crate::fitting::misfit;
 use crate::ground::{
     Area, Class, Extent, LineZone, OpenFault, Place, PlaceZone, extents_of, line_zones, place_zones,
 };
-use crate::parts::nth;
-use crate::spans::Span;
 use n2_elf::Image;
+use n2_parts::{Board, PartKind, Span};
 use n2_word::NoMemory;
 use std::alloc::Global;
 use std::marker::Model;
@@ -75,6 +73,13 @@ fn index(alloc: Global, board: &Board, extents: &[Extent]) -> Result<Layout, NoM
         places,
         place_finder,
     })
+}
+
+/// The zone of a number, if there is one.
+fn nth<T>(items: &[T], i: usize) -> Option<&T>
+    ensures { option_map (λ r. r.now) result ≡ slice_get items.now i }
+{
+    items.get(i)
 }
 
 fn class_found(zones: &[LineZone], found: Option<usize>) -> Class

@@ -2,14 +2,16 @@
 use Rattle.std.proofs.Common.{◌≡◌, ◌≢◌, ◌↔◌, ℕ, ◌+◌, Bool, true, false, List, [], ◌∷◌, Option, Some, None, Result, Ok, Err, refl, sym, ap, ◌∙◌}
 use Rattle.std.specs.Prelude.{is_some}
 use Rattle.toml.specs.Data.{Data, Items, no_items, item, Members, as_integer, as_str, as_array, as_table}
-use Rattle.n2_board.specs.declared.board.Part.{Part}
-use Rattle.n2_board.specs.declared.board.PartKind.{PartKind}
-use Rattle.n2_board.specs.declared.board.PartKind.TheVariants.{Top}
-use Rattle.n2_board.specs.declared.board.Key.{Key}
-use Rattle.n2_board.specs.declared.board.Board.{Board}
-use Rattle.n2_board.specs.declared.board.BoardFault.{BoardFault}
-use Rattle.n2_board.specs.Valid.{first_fault}
-use Rattle.n2_board.specs.Parts.{or_else, unless, arrays, part_of}
+use Rattle.n2_parts.specs.declared.board.Part.{Part}
+use Rattle.n2_parts.specs.declared.board.PartKind.{PartKind}
+use Rattle.n2_parts.specs.declared.board.PartKind.TheVariants.{Top}
+use Rattle.n2_parts.specs.declared.board.Key.{Key}
+use Rattle.n2_parts.specs.declared.board.Board.{Board}
+use Rattle.n2_parts.specs.declared.board.BoardFault.{BoardFault}
+use Rattle.n2_parts.specs.Valid.{first_fault}
+use Rattle.std.specs.Option.{option_or}
+use Rattle.n2_text.specs.Firsts.{unless}
+use Rattle.n2_parts.specs.Parts.{arrays, part_of}
 use Rattle.n2_boardtext.specs.declared.fault.TextFault.{TextFault}
 use Rattle.n2_boardtext.specs.declared.fault.TextFault.TheVariants as faults
 use Rattle.n2_boardtext.specs.declared.keys.Sort.{Sort}
@@ -28,7 +30,7 @@ is_of_tree (Some faults.NotToml) = false
 is_of_tree (Some faults.NoMemory) = false
 is_of_tree _ = true
 
-both : (a b : Option TextFault) → is_of_tree a ≡ true → is_of_tree b ≡ true → is_of_tree (or_else a b) ≡ true
+both : (a b : Option TextFault) → is_of_tree a ≡ true → is_of_tree b ≡ true → is_of_tree (option_or a b) ≡ true
 both None b f g = g
 both (Some fault) b f g = f
 

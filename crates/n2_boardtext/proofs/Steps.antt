@@ -6,7 +6,7 @@ use Rattle.toml.specs.declared.value.Value.{Value}
 use Rattle.toml.specs.Data.{no_items, Members, as_array}
 use Rattle.toml.specs.View.{items_view}
 use Rattle.toml.proofs.Views.{items_view-drop}
-use Rattle.n2_board.specs.declared.board.PartKind.{PartKind}
+use Rattle.n2_parts.specs.declared.board.PartKind.{PartKind}
 use Rattle.n2_boardtext.specs.Values.{array_at, items_in, items_at, count, IsFew}
 
 pub items_end : (vs : List Value) (i : ℕ) → length vs ≤ i → items_view (drop i vs) ≡ no_items

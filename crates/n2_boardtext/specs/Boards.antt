@@ -1,24 +1,24 @@
 -- The board that a text's tree stands for, where nothing is wrong with the tree.
 use Rattle.std.specs.Prelude.{ℕ, List, [], ◌∷◌, ◌++◌, Option, Some, option_and_then, option_map, option_to_list, unwrap_or}
 use Rattle.toml.specs.Data.{Data, Items, no_items, item, Members, as_str, as_array, as_table}
-use Rattle.n2_board.specs.declared.board.Board.{Board}
-use Rattle.n2_board.specs.declared.board.MemoryRow.{MemoryRow}
-use Rattle.n2_board.specs.declared.board.CoreRow.{CoreRow}
-use Rattle.n2_board.specs.declared.board.MutexRow.{MutexRow}
-use Rattle.n2_board.specs.declared.board.MailboxRow.{MailboxRow}
-use Rattle.n2_board.specs.declared.board.TimerRow.{TimerRow}
-use Rattle.n2_board.specs.declared.board.UartRow.{UartRow}
-use Rattle.n2_board.specs.declared.board.RegionRow.{RegionRow}
-use Rattle.n2_board.specs.declared.board.RegionClass.{RegionClass}
-use Rattle.n2_board.specs.declared.board.RegionClass.TheVariants as classes
-use Rattle.n2_board.specs.declared.board.DumpRow.{DumpRow}
-use Rattle.n2_board.specs.declared.board.ScriptRow.{ScriptRow}
-use Rattle.n2_board.specs.declared.board.DeviceEvent.{DeviceEvent}
-use Rattle.n2_board.specs.declared.board.DeviceEvent.TheVariants as events
-use Rattle.n2_board.specs.declared.board.PartKind.{PartKind}
-use Rattle.n2_board.specs.declared.board.PartKind.TheVariants as kinds
-use Rattle.n2_board.specs.declared.board.Key.{Key}
-use Rattle.n2_board.specs.declared.board.Key.TheVariants as keys
+use Rattle.n2_parts.specs.declared.board.Board.{Board}
+use Rattle.n2_parts.specs.declared.board.MemoryRow.{MemoryRow}
+use Rattle.n2_parts.specs.declared.board.CoreRow.{CoreRow}
+use Rattle.n2_parts.specs.declared.board.MutexRow.{MutexRow}
+use Rattle.n2_parts.specs.declared.board.MailboxRow.{MailboxRow}
+use Rattle.n2_parts.specs.declared.board.TimerRow.{TimerRow}
+use Rattle.n2_parts.specs.declared.board.UartRow.{UartRow}
+use Rattle.n2_parts.specs.declared.board.RegionRow.{RegionRow}
+use Rattle.n2_parts.specs.declared.board.RegionClass.{RegionClass}
+use Rattle.n2_parts.specs.declared.board.RegionClass.TheVariants as classes
+use Rattle.n2_parts.specs.declared.board.DumpRow.{DumpRow}
+use Rattle.n2_parts.specs.declared.board.ScriptRow.{ScriptRow}
+use Rattle.n2_parts.specs.declared.board.DeviceEvent.{DeviceEvent}
+use Rattle.n2_parts.specs.declared.board.DeviceEvent.TheVariants as events
+use Rattle.n2_parts.specs.declared.board.PartKind.{PartKind}
+use Rattle.n2_parts.specs.declared.board.PartKind.TheVariants as kinds
+use Rattle.n2_parts.specs.declared.board.Key.{Key}
+use Rattle.n2_parts.specs.declared.board.Key.TheVariants as keys
 use Rattle.n2_boardtext.specs.declared.keys.Sort.{Sort}
 use Rattle.n2_boardtext.specs.declared.keys.Sort.TheVariants.{Number, Name, Names}
 use Rattle.n2_boardtext.specs.declared.keys.Word.{Word}

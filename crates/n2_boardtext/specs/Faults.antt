@@ -2,11 +2,13 @@
 use Rattle.std.specs.Prelude.{ℕ, ◌+◌, List, [], ◌∷◌, Bool, true, false, ◌&&◌, ◌||◌, Option, Some, None, option_and_then, is_some}
 use Rattle.std.specs.Str.{bytes_eq}
 use Rattle.toml.specs.Data.{Data, Items, no_items, item, Members, no_members, member, as_integer, as_str, as_array, as_table}
-use Rattle.n2_board.specs.declared.board.Part.{Part}
-use Rattle.n2_board.specs.declared.board.PartKind.{PartKind}
-use Rattle.n2_board.specs.declared.board.PartKind.TheVariants as kinds
-use Rattle.n2_board.specs.declared.board.Key.{Key}
-use Rattle.n2_board.specs.Parts.{or_else, unless, arrays, part_of}
+use Rattle.n2_parts.specs.declared.board.Part.{Part}
+use Rattle.n2_parts.specs.declared.board.PartKind.{PartKind}
+use Rattle.n2_parts.specs.declared.board.PartKind.TheVariants as kinds
+use Rattle.n2_parts.specs.declared.board.Key.{Key}
+use Rattle.std.specs.Option.{option_or}
+use Rattle.n2_text.specs.Firsts.{unless}
+use Rattle.n2_parts.specs.Parts.{arrays, part_of}
 use Rattle.n2_boardtext.specs.declared.fault.TextFault.{TextFault}
 use Rattle.n2_boardtext.specs.declared.fault.TextFault.TheVariants.{Unknown, Missing, Kind, Range, NoPart}
 use Rattle.n2_boardtext.specs.declared.keys.Sort.{Sort}
@@ -38,7 +40,7 @@ are_parts kind tree no_items = true
 are_parts kind tree (item d ds) = is_part kind tree d && are_parts kind tree ds
 
 abbrev pub names_fault : Members → Part → Key → PartKind → Items → Option TextFault
-names_fault tree part key kind ds = or_else (unless (are_texts ds) (Kind part key)) (unless (are_parts kind tree ds) (NoPart part key))
+names_fault tree part key kind ds = option_or (unless (are_texts ds) (Kind part key)) (unless (are_parts kind tree ds) (NoPart part key))
 
 -- what is wrong with the value of a key
 unfoldable pub value_fault : Members → Part → Key → Sort → Data → Option TextFault
@@ -66,7 +68,7 @@ entry_fault tree part t entry = held_fault tree part entry (value_at (key_of ent
 -- the first of some keys with which something is wrong
 unfoldable pub entries_fault : Members → Part → Members → List Entry → Option TextFault
 entries_fault tree part t [] = None
-entries_fault tree part t (entry ∷ entries) = or_else (entry_fault tree part t entry) (entries_fault tree part t entries)
+entries_fault tree part t (entry ∷ entries) = option_or (entry_fault tree part t entry) (entries_fault tree part t entries)
 
 -- the arrays whose names the text itself has as keys
 abbrev pub known_kinds : PartKind → List PartKind
@@ -92,7 +94,7 @@ are_known kind word (member name d t) = is_known kind word name && are_known kin
 -- what is wrong with a table: an unknown key, or else the first of its keys with which something is
 -- wrong
 unfoldable pub table_fault : Members → Part → Members → Option TextFault
-table_fault tree part t = or_else
+table_fault tree part t = option_or
     (unless (are_known part.kind (word_in part.kind t) t) (Unknown part))
     (entries_fault tree part t (entries_of part.kind (word_in part.kind t)))
 
@@ -105,7 +107,7 @@ part_fault tree part d = kind_or part (first_key part.kind) (table_fault tree pa
 -- the first fault of the parts from number i on
 unfoldable pub parts_fault : Members → PartKind → ℕ → Items → Option TextFault
 parts_fault tree kind i no_items = None
-parts_fault tree kind i (item d ds) = or_else (part_fault tree (part_of kind i) d) (parts_fault tree kind (i + 1) ds)
+parts_fault tree kind i (item d ds) = option_or (part_fault tree (part_of kind i) d) (parts_fault tree kind (i + 1) ds)
 
 -- the first fault of an array, which need not be there
 abbrev pub given_fault : Members → PartKind → Option Data → Option TextFault
@@ -117,8 +119,8 @@ array_fault tree kind = given_fault tree kind (array_at kind tree)
 
 unfoldable pub arrays_fault : Members → List PartKind → Option TextFault
 arrays_fault tree [] = None
-arrays_fault tree (kind ∷ kinds) = or_else (array_fault tree kind) (arrays_fault tree kinds)
+arrays_fault tree (kind ∷ kinds) = option_or (array_fault tree kind) (arrays_fault tree kinds)
 
 -- the first fault of a text: its own keys, and then its arrays in order
 unfoldable pub text_fault : Members → Option TextFault
-text_fault tree = or_else (table_fault tree (part_of kinds.Top 0) tree) (arrays_fault tree arrays)
+text_fault tree = option_or (table_fault tree (part_of kinds.Top 0) tree) (arrays_fault tree arrays)

@@ -1,10 +1,10 @@
 -- The keys that each part has in a board's text: the table that a text is read by.
 use Rattle.std.specs.Prelude.{ℕ, List, [], ◌∷◌, ◌++◌, Option, Some, None, codes, if◌then◌else◌}
 use Rattle.std.specs.Str.{bytes_eq}
-use Rattle.n2_board.specs.declared.board.PartKind.{PartKind}
-use Rattle.n2_board.specs.declared.board.PartKind.TheVariants as kinds
-use Rattle.n2_board.specs.declared.board.Key.{Key}
-use Rattle.n2_board.specs.declared.board.Key.TheVariants as keys
+use Rattle.n2_parts.specs.declared.board.PartKind.{PartKind}
+use Rattle.n2_parts.specs.declared.board.PartKind.TheVariants as kinds
+use Rattle.n2_parts.specs.declared.board.Key.{Key}
+use Rattle.n2_parts.specs.declared.board.Key.TheVariants as keys
 use Rattle.n2_boardtext.specs.declared.keys.Sort.{Sort}
 use Rattle.n2_boardtext.specs.declared.keys.Sort.TheVariants.{Number, Text, Choice, Name, Names}
 use Rattle.n2_boardtext.specs.declared.keys.Word.{Word}

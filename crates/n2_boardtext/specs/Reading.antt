@@ -3,9 +3,9 @@ use Rattle.std.specs.Prelude.{ℕ, List, Option, Some, None, Result, Ok, Err, if
 use Rattle.std.specs.Str.{is_utf8}
 use Rattle.toml.specs.Data.{Members}
 use Rattle.toml.specs.Parse.{parse_document}
-use Rattle.n2_board.specs.declared.board.Board.{Board}
-use Rattle.n2_board.specs.declared.board.BoardFault.{BoardFault}
-use Rattle.n2_board.specs.Valid.{first_fault}
+use Rattle.n2_parts.specs.declared.board.Board.{Board}
+use Rattle.n2_parts.specs.declared.board.BoardFault.{BoardFault}
+use Rattle.n2_parts.specs.Valid.{first_fault}
 use Rattle.n2_boardtext.specs.declared.fault.TextFault.{TextFault}
 use Rattle.n2_boardtext.specs.declared.fault.TextFault.TheVariants as faults
 use Rattle.n2_boardtext.specs.Faults.{text_fault}

@@ -1,10 +1,10 @@
 -- Faults of a board's text as rows.
 use Rattle.std.specs.Prelude.{ℕ, List, ◌++◌, codes, decimal}
-use Rattle.n2_board.specs.declared.board.Part.{Part}
-use Rattle.n2_board.specs.declared.board.PartKind.{PartKind}
-use Rattle.n2_board.specs.declared.board.Key.{Key}
-use Rattle.n2_board.specs.declared.board.BoardFault.{BoardFault}
-use Rattle.n2_board.specs.declared.board.BoardFault.TheVariants as rules
+use Rattle.n2_parts.specs.declared.board.Part.{Part}
+use Rattle.n2_parts.specs.declared.board.PartKind.{PartKind}
+use Rattle.n2_parts.specs.declared.board.Key.{Key}
+use Rattle.n2_parts.specs.declared.board.BoardFault.{BoardFault}
+use Rattle.n2_parts.specs.declared.board.BoardFault.TheVariants as rules
 use Rattle.n2_boardtext.specs.declared.fault.TextFault.{TextFault}
 use Rattle.n2_boardtext.specs.declared.fault.TextFault.TheVariants as faults
 use Rattle.n2_boardtext.specs.Words.{kind_name, key_name}

@@ -3,10 +3,10 @@ use Rattle.std.specs.Prelude.{ℕ, ◌+◌, ◌<◌, ◌^◌, ℤ, pos, negsuc, 
 use Rattle.std.specs.Option.{option_map_or}
 use Rattle.std.specs.Str.{bytes_eq}
 use Rattle.toml.specs.Data.{Data, Items, no_items, item, Members, get_member, as_integer, as_str, as_array, as_table}
-use Rattle.n2_board.specs.declared.board.PartKind.{PartKind}
-use Rattle.n2_board.specs.declared.board.PartKind.TheVariants as kinds
-use Rattle.n2_board.specs.declared.board.Key.{Key}
-use Rattle.n2_board.specs.declared.board.Key.TheVariants as keys
+use Rattle.n2_parts.specs.declared.board.PartKind.{PartKind}
+use Rattle.n2_parts.specs.declared.board.PartKind.TheVariants as kinds
+use Rattle.n2_parts.specs.declared.board.Key.{Key}
+use Rattle.n2_parts.specs.declared.board.Key.TheVariants as keys
 use Rattle.n2_boardtext.specs.declared.keys.Word.{Word}
 use Rattle.n2_boardtext.specs.Words.{kind_name, key_name}
 use Rattle.n2_boardtext.specs.Keys.{word_of}

@@ -1,9 +1,9 @@
 -- The words of a board's text: its arrays and their keys.
 use Rattle.std.specs.Prelude.{ℕ, List, codes}
-use Rattle.n2_board.specs.declared.board.PartKind.{PartKind}
-use Rattle.n2_board.specs.declared.board.PartKind.TheVariants as kinds
-use Rattle.n2_board.specs.declared.board.Key.{Key}
-use Rattle.n2_board.specs.declared.board.Key.TheVariants as keys
+use Rattle.n2_parts.specs.declared.board.PartKind.{PartKind}
+use Rattle.n2_parts.specs.declared.board.PartKind.TheVariants as kinds
+use Rattle.n2_parts.specs.declared.board.Key.{Key}
+use Rattle.n2_parts.specs.declared.board.Key.TheVariants as keys
 
 -- the name of an array of parts; top is the board itself
 abbrev pub kind_name : PartKind → List ℕ

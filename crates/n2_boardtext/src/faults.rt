@@ -2,7 +2,7 @@
 
 ghost use Rattle.std.specs.Prelude.{◌≡◌, ◌<◌, ◌^◌, length};
 ghost use Rattle.toml.specs.View.{view, table_view, items_view};
-ghost use Rattle.n2_board.specs.Parts as board;
+ghost use Rattle.n2_text.specs.Firsts as firsts;
 ghost use Rattle.n2_boardtext.specs.Faults as spec;
 ghost use Rattle.n2_boardtext.specs.Values.{IsFew};
 
@@ -12,24 +12,11 @@ use crate::keys::{
 };
 use crate::values::{array_at, in_range, index_of, value_at, word_in};
 use crate::words::{key_name, kind_name};
-use n2_board::{Key, Part, PartKind};
+use n2_board::{ARRAYS, Key, Part, PartKind};
 use toml::{Table, Value};
 
-/// The arrays of parts, in order.
-pub const ARRAYS: [PartKind; 9] = [
-    PartKind::Memory,
-    PartKind::Core,
-    PartKind::Mutex,
-    PartKind::Mailbox,
-    PartKind::Timer,
-    PartKind::Uart,
-    PartKind::Region,
-    PartKind::Dump,
-    PartKind::Script,
-];
-
 fn unless(holds: bool, fault: TextFault) -> Option<TextFault>
-    ensures { result ≡ board.unless holds fault }
+    ensures { result ≡ firsts.unless holds fault }
 {
     if holds { None } else { Some(fault) }
 }

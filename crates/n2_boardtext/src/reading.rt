@@ -2,8 +2,8 @@
 
 ghost use Rattle.std.specs.Prelude.{◌≡◌, ◌≢◌, ◌<◌, ◌^◌, IsTrue, IfOk, IfErr, Ok, Err, Some, None};
 ghost use Rattle.toml.specs.View.{table_view};
-ghost use Rattle.n2_board.specs.declared.board.PartKind.{PartKind as KindValue};
-ghost use Rattle.n2_board.specs.Valid.{IsValid};
+ghost use Rattle.n2_parts.specs.declared.board.PartKind.{PartKind as KindValue};
+ghost use Rattle.n2_parts.specs.Valid.{IsValid};
 ghost use Rattle.n2_boardtext.specs.Values as values;
 ghost use Rattle.n2_boardtext.specs.Values.{IsFew};
 ghost use Rattle.n2_boardtext.specs.Reading as spec;

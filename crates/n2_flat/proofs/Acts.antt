@@ -2,7 +2,7 @@
 use Rattle.std.proofs.Common.{◌≡◌, ℕ, zero, suc, ◌+◌, ◌-◌, ◌<◌, ◌≤◌, true, false, refl, sym, ap, ◌∙◌, arith}
 use Rattle.std.specs.Prelude.{Option, Some, None, Result, Ok, Err, is_some}
 use Rattle.std.proofs.lemmas.Bool.{false≢true}
-use Rattle.n2_board.specs.declared.stops.Stop.{Stop}
+use Rattle.n2_parts.specs.declared.stops.Stop.{Stop}
 use Rattle.n2_flat.specs.declared.machine.PlainFault.{PlainFault}
 use Rattle.n2_flat.specs.declared.machine.PlainFault.TheVariants.{Unbuilt, NoMemory}
 use Rattle.n2_board.specs.Ground.{Ground}

@@ -1,5 +1,6 @@
 -- The plain board is valid, and images that fit it are inside its memory.
 use Rattle.std.proofs.Common.{◌≡◌, ℕ, ◌*◌, ◌/◌, ◌<◌, Bool, true, false, cond, List, [], ◌∷◌, ◌++◌, length, map, Option, Some, None, refl, arith}
+use Rattle.std.specs.Int.RustNames.{count_ones}
 use Rattle.std.specs.List.{AllByRecursion}
 use Rattle.std.proofs.lemmas.Bool.Decides.{nat_tests}
 use Rattle.n2_elf.specs.declared.image.Segment.{Segment}
@@ -7,10 +8,12 @@ use Rattle.n2_elf.specs.declared.image.Image.{Image}
 use Rattle.n2_board.specs.declared.ground.Place.{Place}
 use Rattle.n2_board.specs.declared.ground.Place.TheVariants.{Memory, Device, Nothing}
 use Rattle.n2_board.specs.declared.ground.OpenFault.{OpenFault}
-use Rattle.n2_board.specs.Parts.{or_else, unless, first_from, first_part}
-use Rattle.n2_board.specs.Numbers.{top_numbers, memory_numbers, core_numbers, uart_numbers, region_numbers, number_fault}
-use Rattle.n2_board.specs.Rules.{bytes_from, is_inside, name_fault, same_name, same_cpuid, core_fault, part_fault, overlap, inside_fault}
-use Rattle.n2_board.specs.Valid.{counts, totals, name_faults, place_faults, early_faults, late_faults, first_fault, IsValid}
+use Rattle.std.specs.Option.{option_or}
+use Rattle.n2_text.specs.Firsts.{unless}
+use Rattle.n2_parts.specs.Parts.{first_from, first_part}
+use Rattle.n2_parts.specs.Numbers.{top_numbers, memory_numbers, core_numbers, uart_numbers, region_numbers, number_fault}
+use Rattle.n2_parts.specs.Rules.{bytes_from, is_inside, name_fault, same_name, same_cpuid, core_fault, part_fault, overlap, inside_fault}
+use Rattle.n2_parts.specs.Valid.{counts, totals, name_faults, place_faults, early_faults, late_faults, first_fault, IsValid}
 use Rattle.n2_board.specs.declared.ground.OpenFault.TheVariants.{Outside}
 use Rattle.n2_board.specs.declared.ground.Class.{Class}
 use Rattle.n2_board.specs.declared.ground.Extent.{Extent}
@@ -23,7 +26,7 @@ use Rattle.n2_flat.specs.PlainBoard.{plain_memory, plain_board, plain_ground}
 use Rattle.n2_flat.specs.Machine.{HasMemory}
 
 pub plain_valid : IsValid plain_board
-unfolding plain_board first_fault counts early_faults late_faults totals name_faults place_faults first_part first_from top_numbers memory_numbers core_numbers uart_numbers region_numbers number_fault name_fault same_name same_cpuid core_fault part_fault overlap inside_fault
+unfolding plain_board first_fault counts early_faults late_faults totals name_faults place_faults first_part first_from top_numbers memory_numbers core_numbers uart_numbers region_numbers number_fault name_fault same_name same_cpuid core_fault part_fault overlap inside_fault count_ones
 plain_valid = refl
 
 pub memory_places : (image : Image) → HasMemory (plain_ground image) 16384
@@ -46,7 +49,7 @@ fetched_inside g words pc memory h = memory pc (not_cut _ (place g pc) _ h)
 
 -- ---- images that fit
 
-both : (a b : Option OpenFault) → or_else a b ≡ None → (a ≡ None) × (b ≡ None)
+both : (a b : Option OpenFault) → option_or a b ≡ None → (a ≡ None) × (b ≡ None)
 both None b h = (refl, h)
 both (Some fault) b h = absurd cc
 

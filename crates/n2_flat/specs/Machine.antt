@@ -8,9 +8,9 @@ use Rattle.n2_exec.specs.Registers.{passed_regs, loaded_regs, raised, interrupte
 use Rattle.n2_exec.specs.Outcomes.{loaded_value}
 use Rattle.n2_exec.specs.Effect.{effect_of_word}
 use Rattle.n2_elf.specs.declared.image.Image.{Image}
-use Rattle.n2_board.specs.declared.stops.Stop.{Stop}
-use Rattle.n2_board.specs.declared.stops.Stop.TheVariants.{Broke, Refused, Stray}
-use Rattle.n2_board.specs.declared.stops.Kind.TheVariants.{Separate}
+use Rattle.n2_parts.specs.declared.stops.Stop.{Stop}
+use Rattle.n2_parts.specs.declared.stops.Stop.TheVariants.{Broke, Refused, Stray}
+use Rattle.n2_parts.specs.declared.stops.Kind.TheVariants.{Separate}
 use Rattle.n2_board.specs.declared.ground.Place.{Place}
 use Rattle.n2_board.specs.declared.ground.Place.TheVariants.{Memory, Device, Nothing}
 use Rattle.n2_board.specs.declared.cut.Cut.{Cut}

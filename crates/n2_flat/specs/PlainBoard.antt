@@ -1,12 +1,12 @@
 -- The plain board: 64 KiB of memory, half of it code and half of it the core's own, one core and one UART.
 use Rattle.std.specs.Prelude.{[], ◌∷◌, None, codes}
 use Rattle.n2_elf.specs.declared.image.Image.{Image}
-use Rattle.n2_board.specs.declared.board.Board.{Board}
-use Rattle.n2_board.specs.declared.board.MemoryRow.{MemoryRow}
-use Rattle.n2_board.specs.declared.board.CoreRow.{CoreRow}
-use Rattle.n2_board.specs.declared.board.UartRow.{UartRow}
-use Rattle.n2_board.specs.declared.board.RegionRow.{RegionRow}
-use Rattle.n2_board.specs.declared.board.RegionClass.TheVariants as classes
+use Rattle.n2_parts.specs.declared.board.Board.{Board}
+use Rattle.n2_parts.specs.declared.board.MemoryRow.{MemoryRow}
+use Rattle.n2_parts.specs.declared.board.CoreRow.{CoreRow}
+use Rattle.n2_parts.specs.declared.board.UartRow.{UartRow}
+use Rattle.n2_parts.specs.declared.board.RegionRow.{RegionRow}
+use Rattle.n2_parts.specs.declared.board.RegionClass.TheVariants as classes
 use Rattle.n2_board.specs.Ground.{Ground, ground_of}
 
 abbrev pub plain_memory : MemoryRow

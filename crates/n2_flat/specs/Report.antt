@@ -4,11 +4,11 @@ use Rattle.std.specs.List.{flat_map}
 use Rattle.n2_text.specs.Fields.{digit_of, word_text}
 use Rattle.n2_word.specs.Lines.{base_of}
 use Rattle.n2_exec.specs.declared.Regs.{Regs}
-use Rattle.n2_board.specs.declared.stops.Kind.{Kind}
-use Rattle.n2_board.specs.declared.stops.Kind.TheVariants.{Separate, Lock, Invalidate, Flush}
-use Rattle.n2_board.specs.declared.stops.Refusal.{Refusal}
-use Rattle.n2_board.specs.declared.stops.Stop.{Stop}
-use Rattle.n2_board.specs.declared.stops.Stop.TheVariants.{Broke, Refused, Stray, Spent, LogFull}
+use Rattle.n2_parts.specs.declared.stops.Kind.{Kind}
+use Rattle.n2_parts.specs.declared.stops.Kind.TheVariants.{Separate, Lock, Invalidate, Flush}
+use Rattle.n2_parts.specs.declared.stops.Refusal.{Refusal}
+use Rattle.n2_parts.specs.declared.stops.Stop.{Stop}
+use Rattle.n2_parts.specs.declared.stops.Stop.TheVariants.{Broke, Refused, Stray, Spent, LogFull}
 use Rattle.n2_flat.specs.declared.machine.PlainEnd.{PlainEnd}
 
 abbrev pub kind_text : Kind → List ℕ

@@ -1,7 +1,7 @@
 //! The plain board.
 
 ghost use Rattle.std.specs.Prelude.{◌≡◌, ◌∷◌, [], length, IfOk};
-ghost use Rattle.n2_board.specs.Valid.{IsValid};
+ghost use Rattle.n2_parts.specs.Valid.{IsValid};
 ghost use Rattle.n2_flat.specs.PlainBoard as spec;
 
 use n2_board::{Board, CoreRow, MemoryRow, RegionClass, RegionRow, UartRow};

@@ -1,5 +1,5 @@
 use Rattle.std.proofs.Common.{◌≡◌, List, ◌++◌, refl, subst, ◌∙◌}
-use Rattle.n2_board.specs.declared.spans.Span.{Span}
+use Rattle.n2_parts.specs.declared.spans.Span.{Span}
 use Rattle.n2_board.specs.Finding.{IsTable}
 use Rattle.n2_board.proofs.Joining.{whole, joined}
 use Rattle.n2_board.proofs.finder.+table_of.Goals as goal

@@ -1,21 +1,22 @@
 use Rattle.std.proofs.Common.{ℕ, ◌+◌, ◌-◌, Option, sym, ap, ◌∙◌, arith}
 use Rattle.n2_board.specs.declared.ground.OpenFault.{OpenFault}
-use Rattle.n2_board.specs.Parts.{or_else, first_from}
+use Rattle.std.specs.Option.{option_or}
+use Rattle.n2_parts.specs.Parts.{first_from}
 use Rattle.n2_board.specs.Ground.{entry_fault}
-use Rattle.n2_board.proofs.Steps.{first_from-next, first_from-done}
+use Rattle.n2_parts.proofs.Steps.{first_from-next, first_from-done}
 use Rattle.n2_board.proofs.fitting.entry_faults.Goals as goal
 
 pub returns-in-Some : goal.returns-in-Some
 returns-in-Some c =
     let f : ℕ → Option OpenFault = λ k. entry_fault c.args.board.now c.args.images.now k in
-    ap (λ (o : Option OpenFault). or_else o (first_from f (c.loop-k.k + 1) (c.args.count - (c.loop-k.k + 1)))) c.in-Some.ensures
+    ap (λ (o : Option OpenFault). option_or o (first_from f (c.loop-k.k + 1) (c.args.count - (c.loop-k.k + 1)))) c.in-Some.ensures
     ∙ sym (first_from-next f c.loop-k.k c.args.count c.loop-k-test.true)
     ∙ c.loop-k.invariant
 
 pub loop-k-preserved : goal.loop-k-preserved
 loop-k-preserved c =
     let f : ℕ → Option OpenFault = λ k. entry_fault c.args.board.now c.args.images.now k in
-    ap (λ (o : Option OpenFault). or_else o (first_from f (c.loop-k.k + 1) (c.args.count - (c.loop-k.k + 1)))) c.in-None.ensures
+    ap (λ (o : Option OpenFault). option_or o (first_from f (c.loop-k.k + 1) (c.args.count - (c.loop-k.k + 1)))) c.in-None.ensures
     ∙ sym (first_from-next f c.loop-k.k c.args.count c.loop-k-test.true)
     ∙ c.loop-k.invariant
 

@@ -1,5 +1,5 @@
 use Rattle.std.proofs.Common.{◌≡◌, ◌-◌}
-use Rattle.n2_board.specs.Parts.{first_from}
+use Rattle.n2_parts.specs.Parts.{first_from}
 use Rattle.n2_board.specs.Ground.{entry_fault}
 use Rattle.n2_board.proofs.fitting.entry_faults.Given as goal
 

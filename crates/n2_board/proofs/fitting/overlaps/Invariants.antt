@@ -1,5 +1,5 @@
 use Rattle.std.proofs.Common.{◌≡◌, ◌-◌}
-use Rattle.n2_board.specs.Parts.{first_from}
+use Rattle.n2_parts.specs.Parts.{first_from}
 use Rattle.n2_board.specs.Ground.{overlap_of}
 use Rattle.n2_board.proofs.fitting.overlaps.Given as goal
 

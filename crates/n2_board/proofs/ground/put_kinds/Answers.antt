@@ -1,5 +1,5 @@
 use Rattle.std.proofs.Common.{◌++◌, get_or, ap, ◌∙◌, arith}
-use Rattle.n2_board.specs.declared.board.PartKind.TheVariants.{Top}
+use Rattle.n2_parts.specs.declared.board.PartKind.TheVariants.{Top}
 use Rattle.n2_board.specs.Ground.{kind_zones}
 use Rattle.n2_board.proofs.Zones.{kinds-more, kinds-done}
 use Rattle.n2_board.proofs.ground.put_kinds.Goals as goal

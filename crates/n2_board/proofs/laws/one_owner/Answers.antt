@@ -1,5 +1,5 @@
 use Rattle.n2_board.proofs.Owners.{one_cpuid, one_holder}
-use Rattle.n2_board.proofs.Sound.{one_cpuid as same_core}
+use Rattle.n2_parts.proofs.Sound.{one_cpuid as same_core}
 use Rattle.n2_board.proofs.laws.one_owner.Goals as goal
 
 pub returns-clause-mutex : goal.returns-clause-mutex

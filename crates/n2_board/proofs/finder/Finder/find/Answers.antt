@@ -1,6 +1,6 @@
 use Rattle.std.proofs.Common.{◌≡◌, ℕ, ◌<◌, ◌≤◌, List, length, get_or, ap, ◌∙◌, arith}
 use Rattle.std.proofs.lemmas.List.{length-map}
-use Rattle.n2_board.specs.declared.spans.Span.{Span}
+use Rattle.n2_parts.specs.declared.spans.Span.{Span}
 use Rattle.n2_board.specs.Finding.{first_holding}
 use Rattle.n2_board.proofs.Finding.{before_all, found_right}
 use Rattle.n2_board.proofs.finder.Finder.find.Goals as goal

@@ -1,5 +1,5 @@
 use Rattle.std.proofs.Common.{arith}
-use Rattle.n2_board.proofs.Found.{valid_small}
+use Rattle.n2_parts.proofs.Small.{valid_small}
 use Rattle.n2_board.proofs.layout.Layout.open.Goals as goal
 
 pub extents_of-requires : goal.extents_of-requires

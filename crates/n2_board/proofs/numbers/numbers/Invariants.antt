@@ -1,6 +1,0 @@
-use Rattle.std.proofs.Common.{◌≡◌, drop}
-use Rattle.n2_board.specs.Numbers.{numbers}
-use Rattle.n2_board.proofs.numbers.numbers.Given as goal
-
-abbrev pub invariant-loop-key : goal.invariant-loop-key
-invariant-loop-key l = numbers l.part (drop l.key-index l.keys) ≡ numbers l.part l.keys

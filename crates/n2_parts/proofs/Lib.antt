@@ -1,3 +1,5 @@
 pub mod Steps
 pub mod Small
 pub mod Sound
+pub mod WholeLines
+pub mod LinePlaces

@@ -14,7 +14,7 @@ pub none_both : (a b : Option BoardFault) → option_or a b ≡ None → (a ≡ 
 none_both None b e = (refl, e)
 none_both (Some fault) b e = absurd cc
 
-none_good : (good : Bool) (fault : BoardFault) → unless good fault ≡ None → good ≡ true
+pub none_good : (good : Bool) (fault : BoardFault) → unless good fault ≡ None → good ≡ true
 none_good true fault e = refl
 none_good false fault e = absurd cc
 

@@ -94,7 +94,7 @@ keeps b valid kind i given lt =
       inside = part_none b (inside_fault b) kind i r.insides given lt;
     }
 
-there : {A : Type 0} (rows : List A) (i : ℕ) (row : A) → slice_get rows i ≡ Some row → i < length rows
+pub there : {A : Type 0} (rows : List A) (i : ℕ) (row : A) → slice_get rows i ≡ Some row → i < length rows
 there [] zero row e = absurd cc
 there [] (suc i) row e = absurd cc
 there (x ∷ rows) zero row e = omega arith
@@ -119,7 +119,7 @@ one_cpuid b valid i j a c ea ec same =
           absurd (some_none (sym found ∙ inner))
     ]
 
-all_good : (part : Part) (checks : List (Key × Bool)) → numbers part checks ≡ None → AllByRecursion (λ check. check.1 ≡ true) checks
+pub all_good : (part : Part) (checks : List (Key × Bool)) → numbers part checks ≡ None → AllByRecursion (λ check. check.1 ≡ true) checks
 all_good part [] e = tt
 all_good part ((key, true) ∷ checks) e = (refl, all_good part checks e)
 all_good part ((key, false) ∷ checks) e = absurd cc

@@ -2,3 +2,4 @@ pub mod Parts
 pub mod Numbers
 pub mod Rules
 pub mod Valid
+pub mod MemoryLines

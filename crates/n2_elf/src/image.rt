@@ -78,7 +78,7 @@ impl Image {
         if !bytes.is_empty() {
             segments.push(Segment {
                 at,
-                bytes: Items::from_bytes(alloc, bytes)?,
+                bytes: Items::from_slice(alloc, bytes)?,
                 size: bytes.len() as u32,
                 exec: true,
                 write: false,

@@ -156,7 +156,7 @@ fn segment_at(alloc: Global, bytes: &[u8], place: usize) -> Result<Segment, NoMe
     let flags = word_at(bytes, place + 24);
     Ok(Segment {
         at: word_at(bytes, place + 12),
-        bytes: Items::from_bytes(alloc, piece(bytes, offset, filesz))?,
+        bytes: Items::from_slice(alloc, piece(bytes, offset, filesz))?,
         size: word_at(bytes, place + 20),
         exec: flags % 2 == 1,
         write: flags / 2 % 2 == 1,

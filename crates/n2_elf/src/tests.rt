@@ -35,7 +35,7 @@ fn code(alloc: Global) -> Result<Segment, NoMemory>
 {
     Ok(Segment {
         at: 0,
-        bytes: Items::from_bytes(alloc, &CODE)?,
+        bytes: Items::from_slice(alloc, &CODE)?,
         size: 8,
         exec: true,
         write: false,

@@ -94,7 +94,7 @@ impl PlainEnd {
                 vector: EXCEPTION,
             },
             stop: None,
-            sent: Items::with_capacity(alloc, WRITE_DEPTH as usize)?,
+            sent: Items::new(alloc),
         })
     }
 

@@ -293,7 +293,7 @@ fn segment(alloc: Global, at: u32, bytes: &[u8], zeros: u8, exec: bool) -> Resul
 {
     Ok(Segment {
         at,
-        bytes: Items::from_bytes(alloc, bytes)?,
+        bytes: Items::from_slice(alloc, bytes)?,
         size: bytes.len() as u32 + u32::from(zeros),
         exec,
         write: !exec,

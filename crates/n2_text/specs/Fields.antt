@@ -1,5 +1,5 @@
 -- Words and numbers as text.
-use Rattle.std.specs.Prelude.{ℕ, ◌+◌, ◌-◌, ◌*◌, ◌/◌, ◌%◌, ◌^◌, List, [], ◌∷◌, length, Bool, Option, Some, None, nat_lt, nat_le, ◌==◌, ◌&&◌, if◌then◌else◌}
+use Rattle.std.specs.Prelude.{ℕ, ◌+◌, ◌-◌, ◌*◌, ◌/◌, ◌%◌, ◌^◌, List, [], ◌∷◌, length, Bool, Option, Some, None, option_and_then, nat_lt, nat_le, ◌==◌, ◌&&◌, if◌then◌else◌}
 
 -- the hexadecimal digit of a number below sixteen, in lower case
 abbrev pub digit_of : ℕ → ℕ
@@ -14,6 +14,23 @@ word_text word =
 -- a decimal digit
 abbrev pub is_digit : ℕ → Bool
 is_digit c = nat_le 48 c && nat_lt c 58
+
+-- one of the letters a to f
+abbrev pub is_hex_letter : ℕ → Bool
+is_hex_letter c = nat_le 97 c && nat_lt c 103
+
+-- the number that a hexadecimal digit in lower case stands for
+abbrev pub digit_value : ℕ → Option ℕ
+digit_value c = if is_digit c then Some (c - 48) else (if is_hex_letter c then Some (c - 87) else None)
+
+-- the number that hexadecimal digits make after a number that was read so far
+abbrev pub hex_digits_after : ℕ → List ℕ → Option ℕ
+hex_digits_after n [] = Some n
+hex_digits_after n (c ∷ cs) = option_and_then (λ d. hex_digits_after (16 * n + d) cs) (digit_value c)
+
+-- the word that a text is, in eight hexadecimal digits in lower case
+unfoldable pub hex_word : List ℕ → Option ℕ
+hex_word text = if length text == 8 then hex_digits_after 0 text else None
 
 -- the number that decimal digits make after a number that was read so far
 abbrev pub digits_after : ℕ → List ℕ → Option ℕ

@@ -1,7 +1,8 @@
 //! Words and numbers as text, written and read.
 
-ghost use Rattle.std.specs.Prelude.{◌≡◌, ℕ, ◌+◌, ◌*◌, ◌<◌, ◌≤◌, ◌^◌, ◌++◌, decimal, min, OnOk, option_map};
-ghost use Rattle.n2_text.specs.Fields.{digit_of, word_text, digits_after, numeral, at_most};
+ghost use Rattle.std.specs.Prelude.{◌≡◌, ◌+◌, ◌-◌, ◌*◌, ◌<◌, ◌^◌, ◌++◌, decimal, IfSome, OnOk, OnErr, length};
+ghost use Rattle.n2_text.specs.Fields.{digit_of, word_text, digits_after, at_most, hex_digits_after};
+ghost use Rattle.n2_text.specs.Fields as spec;
 
 use itoa::Buffer;
 use n2_word::NoMemory;
@@ -31,9 +32,10 @@ pub fn word_digits(word: u32) -> [u8; 8]
     ]
 }
 
-/// Appends a text.
+/// Appends a text. After want of memory `out` is as it was.
 pub fn put_text(out: &mut Vec<u8>, text: &[u8]) -> Result<(), NoMemory>
-    ensures { OnOk result (out.new.items ≡ out.old.items ++ text.now) }
+    ensures ok { OnOk result (out.new.items ≡ out.old.items ++ text.now) }
+    ensures err { OnErr result (out.new.items ≡ out.old.items) }
 {
     match out.extend_from_slice(text) {
         Ok(()) => Ok(()),
@@ -41,55 +43,114 @@ pub fn put_text(out: &mut Vec<u8>, text: &[u8]) -> Result<(), NoMemory>
     }
 }
 
-/// Appends a word as eight digits.
+/// Appends a word as eight digits. After want of memory `out` is as it was.
 pub fn put_word(out: &mut Vec<u8>, word: u32) -> Result<(), NoMemory>
-    ensures { OnOk result (out.new.items ≡ out.old.items ++ word_text word) }
+    ensures ok { OnOk result (out.new.items ≡ out.old.items ++ word_text word) }
+    ensures err { OnErr result (out.new.items ≡ out.old.items) }
 {
     put_text(out, &word_digits(word))
 }
 
-/// Appends a number in decimal.
+/// Appends a number in decimal. After want of memory `out` is as it was.
 pub fn put_number(out: &mut Vec<u8>, n: u64) -> Result<(), NoMemory>
-    ensures { OnOk result (out.new.items ≡ out.old.items ++ decimal n) }
+    ensures ok { OnOk result (out.new.items ≡ out.old.items ++ decimal n) }
+    ensures err { OnErr result (out.new.items ≡ out.old.items) }
 {
     let mut buffer = Buffer::new();
     put_text(out, buffer.format(n).as_bytes())
 }
 
-fn least(a: u64, b: u64) -> u64
-    ensures { result ≡ min a b }
+/// Appends a text and a number in decimal. After want of memory `out` is as it was.
+pub fn put_numbered(out: &mut Vec<u8>, text: &[u8], n: u64) -> Result<(), NoMemory>
+    ensures ok { OnOk result (out.new.items ≡ out.old.items ++ (text.now ++ decimal n)) }
+    ensures err { OnErr result (out.new.items ≡ out.old.items) }
 {
-    if a < b { a } else { b }
+    let len = out.len();
+    put_text(out, text)?;
+    match put_number(out, n) {
+        Ok(()) => Ok(()),
+        Err(NoMemory) => {
+            out.truncate(len);
+            Err(NoMemory)
+        }
+    }
 }
 
-/// The number that digits are, or most where it is greater.
-fn capped(most: u64, text: &[u8]) -> Option<u64>
-    requires { most < 2 ^ 60 }
-    ensures { result ≡ option_map (λ n. min n most) (digits_after 0 text.now) }
+/// The number that a hexadecimal digit in lower case stands for.
+fn digit_value(c: u8) -> Option<u32>
+    ensures value { result ≡ spec.digit_value c }
+    ensures small { IfSome result (λ d. d < 16) }
+{
+    match c {
+        b'0'..=b'9' => Some(u32::from(c - b'0')),
+        b'a'..=b'f' => Some(u32::from(c - b'a') + 10),
+        _ => None,
+    }
+}
+
+/// The number that eight hexadecimal digits are.
+fn hex_digits(text: &[u8]) -> Option<u32>
+    requires { length text.now ≡ 8 }
+    ensures { result ≡ hex_digits_after 0 text.now }
+{
+    let mut n = 0u64;
+    for c in text {
+        n = 16 * n + u64::from(digit_value(*c)?);
+    }
+    Some(n as u32)
+}
+
+/// The word that a text is, in eight hexadecimal digits in lower case; None where it is none.
+#[tactic(auto, unfolding(crate::specs::Fields::hex_word))]
+pub fn hex_word(text: &[u8]) -> Option<u32>
+    ensures { result ≡ spec.hex_word text.now }
+{
+    if text.len() == 8 {
+        hex_digits(text)
+    } else {
+        None
+    }
+}
+
+/// A number with one more digit, where it is below 2^64.
+fn with_digit(n: u64, digit: u8) -> Option<u64>
+    requires { digit < 10 }
+    ensures { result ≡ at_most (2 ^ 64 - 1) (Some (10 * n + digit)) }
+{
+    n.checked_mul(10)?.checked_add(u64::from(digit))
+}
+
+/// The number below 2^64 that decimal digits are.
+fn decimal_digits(text: &[u8]) -> Option<u64>
+    ensures { result ≡ at_most (2 ^ 64 - 1) (digits_after 0 text.now) }
 {
     let mut n = 0u64;
     for c in text {
         if !c.is_ascii_digit() {
             return None;
         }
-        n = least(10 * n + u64::from(*c - 48), most);
+        n = with_digit(n, *c - b'0')?;
     }
     Some(n)
 }
 
-/// The number that a text is, in decimal digits without a sign or a leading zero; None where it is
-/// none or is greater than `most`.
-pub fn numeral_up_to(most: u64, text: &[u8]) -> Option<u64>
-    requires { most + 1 < 2 ^ 60 }
-    ensures { result ≡ at_most most (numeral text.now) }
+/// The number below 2^64 that a text is, in decimal digits without a sign or a leading zero; None
+/// where it is none.
+pub fn numeral(text: &[u8]) -> Option<u64>
+    ensures { result ≡ at_most (2 ^ 64 - 1) (spec.numeral text.now) }
 {
     match text {
         [] => None,
         [b'0'] => Some(0),
         [b'0', ..] => None,
-        _ => {
-            let n = capped(most + 1, text)?;
-            if n <= most { Some(n) } else { None }
-        }
+        _ => decimal_digits(text),
     }
+}
+
+/// The number that a text is, as [`numeral`] reads it, where it is no greater than `most`.
+pub fn numeral_up_to(most: u64, text: &[u8]) -> Option<u64>
+    ensures { result ≡ at_most most (spec.numeral text.now) }
+{
+    let n = numeral(text)?;
+    if n <= most { Some(n) } else { None }
 }

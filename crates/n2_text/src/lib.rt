@@ -1,12 +1,16 @@
-//! What texts and lists are made of: text and lists that contracts see as lists, and words,
-//! numbers and keys as text.
+//! What texts and lists are made of: text and lists that contracts see as lists, and words and
+//! numbers as text.
 #![tactic(auto)]
 
 mod fields;
+pub mod laws;
 mod lists;
 
-pub use fields::{digit, numeral_up_to, put_number, put_text, put_word, word_digits};
-pub use lists::{Items, Text};
+pub use fields::{
+    digit, hex_word, numeral, numeral_up_to, put_number, put_numbered, put_text, put_word,
+    word_digits,
+};
+pub use lists::{Bounded, Items, Text};
 
 #[cfg(test)]
 mod tests {
@@ -14,29 +18,15 @@ mod tests {
     use std::test::Fail;
 
     #[test]
-    fn reads_numbers(rt: HostRuntime) {
-        let cases = [
-            ("0", Some(0)),
-            ("7", Some(7)),
-            ("100", Some(100)),
-            ("1000000", Some(1_000_000)),
-            ("1000001", None),
-            ("99999999999999999999999999999999", None),
-            ("", None),
-            ("00", None),
-            ("01", None),
-            ("+1", None),
-            ("-1", None),
-            ("1 ", None),
-            ("1a", None),
-        ];
-        for (text, want) in cases {
-            assert_eq!(rt;
-                numeral_up_to(1_000_000, text.as_bytes()),
-                want,
-                "at {text}"
-            );
-        }
+    fn reads_words_and_numbers(rt: HostRuntime) {
+        assert_eq!(rt; numeral(b"0"), Some(0));
+        assert_eq!(rt; numeral(b"01"), None);
+        assert_eq!(rt; numeral(b"18446744073709551615"), Some(u64::MAX));
+        assert_eq!(rt; numeral(b"18446744073709551616"), None);
+        assert_eq!(rt; numeral_up_to(1_000_000, b"1000000"), Some(1_000_000));
+        assert_eq!(rt; numeral_up_to(1_000_000, b"1000001"), None);
+        assert_eq!(rt; hex_word(b"0089abef"), Some(0x0089_abef));
+        assert_eq!(rt; hex_word(b"0089ABEF"), None);
     }
 
     #[test]
@@ -45,7 +35,11 @@ mod tests {
         put_word(&mut out, 0x0089_abef)?;
         put_text(&mut out, b" ")?;
         put_number(&mut out, 18_446_744_073_709_551_615)?;
-        assert_eq!(rt; out.as_slice(), b"0089abef 18446744073709551615".as_slice());
+        put_numbered(&mut out, b" cut ", 52)?;
+        assert_eq!(rt;
+            out.as_slice(),
+            b"0089abef 18446744073709551615 cut 52".as_slice()
+        );
         Ok(())
     }
 
@@ -53,23 +47,28 @@ mod tests {
     fn keeps_lists_and_texts(rt: HostRuntime) -> Result<(), Fail> {
         let text = Text::from_str(rt.alloc(), "u0")?;
         assert_eq!(rt; text.copy(rt.alloc())?.as_str(), "u0");
+        assert_eq!(rt; text.into_string().as_str(), "u0");
         assert_eq!(rt;
             Text::new("m0".to_string(rt.alloc())?).as_bytes(),
             b"m0".as_slice()
         );
-        let mut items = Items::with_capacity(rt.alloc(), 2)?;
+        let mut items = Items::new(rt.alloc());
         items.push(3u32)?;
-        items.push(4)?;
-        assert_eq!(rt; items.len(), 2);
+        assert_eq!(rt; items.len(), 1);
         assert_eq!(rt;
-            Items::from_vec(items.into_vec()).as_slice(),
-            [3, 4].as_slice()
+            Items::from_vec(items.copy(rt.alloc())?.into_vec()).as_slice(),
+            [3].as_slice()
         );
         assert_eq!(rt;
-            Items::from_bytes(rt.alloc(), b"hi")?.as_slice(),
+            Items::from_slice(rt.alloc(), b"hi")?.as_slice(),
             b"hi".as_slice()
         );
-        assert_eq!(rt; Items::<u8>::new(rt.alloc()).len(), 0);
+        let mut bounded = Bounded::with_room(rt.alloc(), 2)?;
+        bounded.push(3u32);
+        bounded.push(4);
+        assert_eq!(rt; (bounded.len(), bounded.room()), (2, 2));
+        assert_eq!(rt; bounded.as_slice(), [3, 4].as_slice());
+        assert_eq!(rt; bounded.into_items().len(), 2);
         Ok(())
     }
 }

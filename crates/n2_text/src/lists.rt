@@ -1,6 +1,6 @@
 //! Small types over `Vec` and `String`, which contracts see as lists, so that a copy is equal.
 
-ghost use Rattle.std.specs.Prelude.{◌≡◌, ◌≤◌, ◌<◌, ◌+◌, [], ◌∷◌, ◌++◌, length, IfOk, OnOk, OnErr, string_bytes, slice_set, vec_len};
+ghost use Rattle.std.specs.Prelude.{◌≡◌, ◌<◌, [], ◌∷◌, ◌++◌, length, IfOk, OnOk, OnErr, string_bytes};
 
 use n2_word::NoMemory;
 use std::alloc::Global;
@@ -52,6 +52,14 @@ impl Text {
         self.inner.as_bytes()
     }
 
+    /// The string of the text, which is not copied.
+    pub fn into_string(self) -> String
+        ensures { string_bytes result ≡ self }
+    {
+        let Text { inner } = self;
+        inner
+    }
+
     /// An equal text.
     pub fn copy(&self, alloc: Global) -> Result<Text, NoMemory>
         ensures { IfOk result (λ t. t ≡ self.now) }
@@ -81,16 +89,6 @@ impl<T> Items<T> {
     {
         Items {
             inner: Vec::new(alloc),
-        }
-    }
-
-    /// No items yet, with room for so many.
-    pub fn with_capacity(alloc: Global, capacity: usize) -> Result<Items<T>, NoMemory>
-        ensures { IfOk result (λ v. v ≡ []) }
-    {
-        match Vec::with_capacity(alloc, capacity) {
-            Ok(inner) => Ok(Items { inner }),
-            Err(_) => Err(NoMemory),
         }
     }
 
@@ -137,14 +135,93 @@ impl<T> Items<T> {
     }
 }
 
-impl Items<u8> {
-    /// A copy of some bytes.
-    pub fn from_bytes(alloc: Global, bytes: &[u8]) -> Result<Items<u8>, NoMemory>
-        ensures { IfOk result (λ v. v ≡ bytes.now) }
+impl<T: Copy> Items<T> {
+    /// A copy of some items.
+    pub fn from_slice(alloc: Global, items: &[T]) -> Result<Items<T>, NoMemory>
+        ensures { IfOk result (λ v. v ≡ items.now) }
     {
-        match bytes.to_vec(alloc) {
+        match Vec::from_slice(alloc, items) {
             Ok(inner) => Ok(Items { inner }),
             Err(_) => Err(NoMemory),
         }
+    }
+
+    /// An equal list.
+    pub fn copy(&self, alloc: Global) -> Result<Items<T>, NoMemory>
+        ensures { IfOk result (λ v. v ≡ self.now) }
+    {
+        Items::from_slice(alloc, self.inner.as_slice())
+    }
+}
+
+/// A list with memory taken for so many items, which is its room: a push within it takes none.
+#[derive(Debug, Drop)]
+pub struct Bounded<T> {
+    inner: Vec<T>,
+    room: usize,
+}
+
+impl<T> Model for Bounded<T> {
+    ghost use Rattle.std.specs.Prelude.{◌≤◌, vec_capacity};
+    ghost use Rattle.n2_text.specs.Rooms.{WithRoom};
+
+    ghost Value = { WithRoom T };
+
+    ghost view = { λ b. record { items = b.inner.items; room = b.room } };
+
+    ghost invariant = { λ b. b.room ≤ vec_capacity b.inner };
+}
+
+impl<T> Bounded<T> {
+    /// No items yet, with room for so many.
+    pub fn with_room(alloc: Global, room: usize) -> Result<Bounded<T>, NoMemory>
+        ensures { IfOk result (λ b. b ≡ record { items = []; room = room }) }
+    {
+        match Vec::with_capacity(alloc, room) {
+            Ok(inner) => Ok(Bounded { inner, room }),
+            Err(_) => Err(NoMemory),
+        }
+    }
+
+    /// One more item at the end, where there is room.
+    pub fn push(&mut self, item: T)
+    where
+        T: Drop,
+        requires { length self.old.items < self.old.room }
+        ensures { self.new ≡ record { items = self.old.items ++ item ∷ []; room = self.old.room } }
+    {
+        match self.inner.push(item) {
+            Ok(()) => (),
+            Err(_) => unreachable!(),
+        }
+    }
+
+    /// The items.
+    pub fn as_slice(&self) -> &[T]
+        ensures { result.now ≡ self.now.items }
+    {
+        self.inner.as_slice()
+    }
+
+    /// How many items there are.
+    pub fn len(&self) -> usize
+        ensures { result ≡ length self.now.items }
+    {
+        self.inner.len()
+    }
+
+    /// How many items there can be.
+    pub fn room(&self) -> usize
+        ensures { result ≡ self.now.room }
+    {
+        self.room
+    }
+
+    /// The items as a list, which are not copied.
+    pub fn into_items(self) -> Items<T>
+        ensures { result ≡ self.items }
+    {
+        let Bounded { inner, room: _ } = self;
+        Items { inner }
     }
 }

@@ -20,6 +20,7 @@ pub enum Width {
 }
 
 /// A byte with its sign extended to 32 bits.
+#[inline(always)]
 pub fn sign8(byte: u8) -> u32
     ensures { result ≡ signed_byte byte }
 {
@@ -32,6 +33,7 @@ pub fn sign8(byte: u8) -> u32
 }
 
 /// A half with its sign extended to 32 bits.
+#[inline(always)]
 pub fn sign16(half: u16) -> u32
     ensures { result ≡ signed_half half }
 {
@@ -44,6 +46,7 @@ pub fn sign16(half: u16) -> u32
 }
 
 /// The number of the line of 32 bytes that holds an address; bit 31 does not count.
+#[inline(always)]
 pub fn line_of(address: u32) -> u32
     ensures { result ≡ line address }
 {
@@ -51,6 +54,7 @@ pub fn line_of(address: u32) -> u32
 }
 
 /// The set of a direct-mapped cache of `sets` sets that keeps a line.
+#[inline(always)]
 pub fn set_of(line: u32, sets: u32) -> u32
     requires { 0 < sets }
     ensures set { result ≡ set_for line sets }
@@ -60,6 +64,7 @@ pub fn set_of(line: u32, sets: u32) -> u32
 }
 
 /// Whether an address is a multiple of the access's size.
+#[inline(always)]
 pub fn aligned(address: u32, width: Width) -> bool
     ensures { result ≡ is_aligned address width }
 {
@@ -71,6 +76,7 @@ pub fn aligned(address: u32, width: Width) -> bool
 }
 
 /// The byte, half or word from a lane of a word on, zero-extended. The lane is the address mod 4.
+#[inline(always)]
 pub fn extract(word: u32, lane: u32, width: Width) -> u32
     requires place { lane < 4 }
     requires aligned { IsTrue (is_aligned lane width) }
@@ -84,6 +90,7 @@ pub fn extract(word: u32, lane: u32, width: Width) -> u32
 }
 
 /// A word whose byte, half or word from a lane on is replaced by the low bits of a value.
+#[inline(always)]
 pub fn merge(word: u32, lane: u32, width: Width, value: u32) -> u32
     requires place { lane < 4 }
     requires aligned { IsTrue (is_aligned lane width) }
@@ -96,6 +103,7 @@ pub fn merge(word: u32, lane: u32, width: Width, value: u32) -> u32
     }
 }
 
+#[inline(always)]
 fn extract_byte(word: u32, lane: u32) -> u32
     requires { lane < 4 }
     ensures { result ≡ extracted word lane Width.Byte }
@@ -108,6 +116,7 @@ fn extract_byte(word: u32, lane: u32) -> u32
     }
 }
 
+#[inline(always)]
 fn extract_half(word: u32, lane: u32) -> u32
     requires place { lane < 4 }
     requires aligned { IsTrue (is_aligned lane Width.Half) }
@@ -119,6 +128,7 @@ fn extract_half(word: u32, lane: u32) -> u32
     }
 }
 
+#[inline(always)]
 fn merge_byte(word: u32, lane: u32, value: u32) -> u32
     requires place { lane < 4 }
     ensures { result ≡ merged word lane Width.Byte value }
@@ -132,6 +142,7 @@ fn merge_byte(word: u32, lane: u32, value: u32) -> u32
     }
 }
 
+#[inline(always)]
 fn merge_half(word: u32, lane: u32, value: u32) -> u32
     requires place { lane < 4 }
     requires aligned { IsTrue (is_aligned lane Width.Half) }

@@ -22,7 +22,7 @@ loop-segment-preserved c =
     let next = contents_len-next c.args.segments.now c.loop-segment.segment-index c.segment-item.result c.loop-segment-test.true c.segment-item.is in
     record {
       rest = rw c.len.ensures (programs-more c.loop-segment.offset c.loop-segment.out.items c.put_text.new.out.items _ c.args.segments.now c.loop-segment.segment-index c.segment-item.result c.loop-segment-test.true c.segment-item.is
-          (c.in_ok-put_text.ensures ∙ ap (λ (x : List ℕ). c.loop-segment.out.items ++ x) c.program.ensures) c.loop-segment.invariant.rest);
+          (c.in_ok-put_text.ensures.ok ∙ ap (λ (x : List ℕ). c.loop-segment.out.items ++ x) c.program.ensures) c.loop-segment.invariant.rest);
       small = omega arith;
     }
 

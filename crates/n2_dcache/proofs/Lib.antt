@@ -1,2 +1,2 @@
 pub mod Maps
-pub mod Sets
+pub mod Masks

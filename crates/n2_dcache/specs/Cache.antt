@@ -1,6 +1,7 @@
 -- A direct-mapped data cache with lines of 32 bytes (Nios II Processor Reference Guide, "Cache Memory"):
 -- one optional line for each set.
-use Rattle.std.specs.Prelude.{◌≡◌, ℕ, ◌/◌, Bool, true, false, ◌==◌, if◌then◌else◌, List, [], length, replicate, get_or, slice_set, Option, Some, None, option_map}
+use Rattle.std.specs.Prelude.{◌≡◌, ◌≤◌, ℕ, ◌/◌, Bool, true, false, IsTrue, ◌==◌, if◌then◌else◌, List, [], length, replicate, get_or, slice_set, Option, Some, None, option_map}
+use Rattle.std.specs.Int.{is_power_of_two}
 use Rattle.n2_word.specs.declared.Width.{Width}
 use Rattle.n2_word.specs.Lines.{line, set_for, read_in_line, written_in_line}
 use Rattle.n2_dcache.specs.declared.Held.{Held}
@@ -40,6 +41,14 @@ held_line slots number = if has_line slots number then slot_at slots (own_set sl
 abbrev pub loaded : List (Option Held) → ℕ → Width → ℕ
 loaded slots address width = read_in_line (words_of (slot_at slots (own_set slots (line address)))) address width
 
+-- what a load of that width reads from a line
+abbrev pub read_in : ℕ → Width → Held → ℕ
+read_in address width held = read_in_line held.words address width
+
+-- the same where the line of the address is held, else none
+abbrev pub found : List (Option Held) → ℕ → Width → Option ℕ
+found slots address width = option_map (read_in address width) (held_line slots (line address))
+
 -- a line after a store of that width
 abbrev pub stored_in : ℕ → Width → ℕ → Held → Held
 stored_in address width value held =
@@ -49,6 +58,11 @@ stored_in address width value held =
 abbrev pub stored : List (Option Held) → ℕ → Width → ℕ → List (Option Held)
 stored slots address width value =
     slice_set slots (own_set slots (line address)) (option_map (stored_in address width value) (slot_at slots (own_set slots (line address))))
+
+-- the same where the line of the address is held, else no change
+abbrev pub stored_if_held : List (Option Held) → ℕ → Width → ℕ → List (Option Held)
+stored_if_held slots address width value =
+    if has_line slots (line address) then stored slots address width value else slots
 
 -- a line as it is after it was filled
 abbrev pub clean_line : ℕ → List ℕ → Held
@@ -74,3 +88,9 @@ opened bytes = replicate (bytes / 32) None
 pub record IsPlaced (slots : List (Option Held)) : Type 0 where
   pub own : (set : ℕ) (held : Held) → slot_at slots set ≡ Some held → own_set slots held.line ≡ set
   pub eight : (set : ℕ) (held : Held) → slot_at slots set ≡ Some held → length held.words ≡ 8
+
+-- and that there are sets, as many as a power of two
+pub record IsWhole (slots : List (Option Held)) : Type 0 where
+  pub power : IsTrue (is_power_of_two (length slots))
+  pub most : length slots ≤ 2048
+  pub placed : IsPlaced slots

@@ -1,14 +1,15 @@
 //! The private data cache of a core: direct-mapped, with lines of 32 bytes.
 #![tactic(auto)]
 
-ghost use Rattle.std.specs.Prelude.{◌≡◌, ℕ, ◌<◌, ◌≤◌, IsTrue, IfOk, false, length};
-ghost use Rattle.std.specs.Int.{is_power_of_two};
+ghost use Rattle.std.specs.Prelude.{◌≡◌, ◌<◌, IsTrue, IfOk, false, length};
+ghost use Rattle.std.specs.Option.{option_copied};
+ghost use Rattle.n2_dcache.specs.Cache.{opened};
 
 pub mod laws;
 #[cfg(test)]
 mod tests;
 
-use n2_word::{NoMemory, Width, extract, line_of, merge, set_of};
+use n2_word::{NoMemory, Width, extract, line_of, merge};
 use std::alloc::Global;
 use std::marker::Model;
 
@@ -25,53 +26,33 @@ pub struct Held {
 /// Processor Reference Guide, "Cache Memory").
 #[derive(Debug, Drop)]
 pub struct DCache {
-    sets: u32,
-    tags: Vec<Option<u32>>,
-    lines: Vec<[u32; 8]>,
-    dirty: Vec<bool>,
+    slots: Vec<Option<Held>>,
 }
 
 impl Model for DCache {
     ghost use Rattle.std.specs.Prelude.{List, Option};
     ghost use Rattle.n2_dcache.specs.declared.Held.{Held};
-    ghost use Rattle.n2_dcache.specs.Arrays.{slots_of, IsWhole};
+    ghost use Rattle.n2_dcache.specs.Cache.{IsWhole};
 
     ghost Value = { List (Option Held) };
 
-    ghost view = { λ c. slots_of c.tags.items c.lines.items c.dirty.items };
+    ghost view = { λ c. c.slots.items };
 
-    ghost invariant = { λ c. IsWhole c.sets c.tags.items c.lines.items c.dirty.items };
+    ghost invariant = { λ c. IsWhole c.slots.items };
 }
 
 impl DCache {
     ghost use Rattle.n2_word.specs.Words.{is_aligned};
-    ghost use Rattle.n2_word.specs.Lines.{line};
-    ghost use Rattle.n2_dcache.specs.Cache.{IsPlaced, slot_at, own_set, is_dirty, has_line, loaded, stored, filled, set_dropped, line_dropped, opened};
+    ghost use Rattle.n2_word.specs.Lines.{line, is_cache_size};
+    ghost use Rattle.n2_dcache.specs.Cache.{IsPlaced, slot_at, own_set, is_dirty, has_line, held_line, loaded, found, stored, stored_if_held, filled, set_dropped, line_dropped};
 
     /// An empty cache of so many bytes, which takes all its memory here. NoMemory is its only error.
     pub fn open(alloc: Global, bytes: u32) -> Result<DCache, NoMemory>
-        requires power { IsTrue (is_power_of_two bytes) }
-        requires least { 512 ≤ bytes }
-        requires most { bytes ≤ 65536 }
+        requires { IsTrue (is_cache_size bytes) }
         ensures { IfOk result (λ cache. cache ≡ opened bytes) }
     {
-        let sets = bytes / 32;
-        let count = sets as usize;
-        let Ok(tags) = vec![in alloc; None; count] else {
-            return Err(NoMemory);
-        };
-        let Ok(lines) = vec![in alloc; [0; 8]; count] else {
-            return Err(NoMemory);
-        };
-        let Ok(dirty) = vec![in alloc; false; count] else {
-            return Err(NoMemory);
-        };
-        Ok(DCache {
-            sets,
-            tags,
-            lines,
-            dirty,
-        })
+        let slots = empty_slots(alloc, bytes)?;
+        Ok(DCache { slots })
     }
 
     /// How many sets there are: at least one, and each line that is held stands in its own.
@@ -80,15 +61,29 @@ impl DCache {
         ensures some { 0 < result }
         ensures placed { IsPlaced self.now }
     {
-        self.sets
+        self.slots.len() as u32
+    }
+
+    /// A line where it is held; None exactly where it is not.
+    #[inline(always)]
+    pub fn find(&self, line: u32) -> Option<&Held>
+        ensures { option_copied result ≡ held_line self.now line }
+    {
+        match &self.slots[self.set_of(line)] {
+            Some(held) if held.line == line => Some(held),
+            _ => None,
+        }
     }
 
     /// Whether a line is held.
+    #[inline(always)]
     pub fn has(&self, line: u32) -> bool
         ensures { result ≡ has_line self.now line }
     {
-        let set = set_of(line, self.sets) as usize;
-        self.tags[set] == Some(line)
+        match &self.slots[self.set_of(line)] {
+            Some(held) => held.line == line,
+            None => false,
+        }
     }
 
     /// What a set holds; None exactly where it is empty.
@@ -96,37 +91,76 @@ impl DCache {
         requires { set < length self.now }
         ensures { result ≡ slot_at self.now set }
     {
-        let set = set as usize;
-        let line = self.tags[set]?;
-        Some(Held {
-            line,
-            words: self.lines[set],
-            dirty: self.dirty[set],
-        })
+        self.slots[set as usize]
+    }
+
+    /// Whether a set holds a dirty line.
+    #[inline(always)]
+    pub fn is_dirty(&self, set: u32) -> bool
+        requires { set < length self.now }
+        ensures { result ≡ is_dirty (slot_at self.now set) }
+    {
+        match &self.slots[set as usize] {
+            Some(held) => held.dirty,
+            None => false,
+        }
     }
 
     /// The byte, half or word at an address of a held line, zero-extended.
+    #[inline(always)]
     pub fn load(&self, address: u32, width: Width) -> u32
         requires there { IsTrue (has_line self.now (line address)) }
         requires aligned { IsTrue (is_aligned address width) }
         ensures { result ≡ loaded self.now address width }
     {
-        let set = set_of(line_of(address), self.sets) as usize;
-        let place = (address % 32 / 4) as usize;
-        extract(self.lines[set][place], address % 4, width)
+        match &self.slots[self.set_of(line_of(address))] {
+            Some(held) => held.read(address, width),
+            None => unreachable!(),
+        }
+    }
+
+    /// `load` where the line of the address is held, and None exactly where it is not: one look at
+    /// the set in place of `has` and `load`.
+    #[inline(always)]
+    pub fn try_load(&self, address: u32, width: Width) -> Option<u32>
+        requires { IsTrue (is_aligned address width) }
+        ensures { result ≡ found self.now address width }
+    {
+        let held = self.find(line_of(address))?;
+        Some(held.read(address, width))
     }
 
     /// Writes the low bits of a value at an address of a held line, which is dirty then.
+    #[inline(always)]
     pub fn store(&mut self, address: u32, width: Width, value: u32)
         requires there { IsTrue (has_line self.old (line address)) }
         requires aligned { IsTrue (is_aligned address width) }
         ensures { self.new ≡ stored self.old address width value }
     {
-        let set = set_of(line_of(address), self.sets) as usize;
-        let place = (address % 32 / 4) as usize;
-        let words = &mut self.lines[set];
-        words[place] = merge(words[place], address % 4, width, value);
-        self.dirty[set] = true;
+        let set = self.set_of(line_of(address));
+        match &mut self.slots[set] {
+            Some(held) => held.write(address, width, value),
+            None => unreachable!(),
+        }
+    }
+
+    /// `store` where the line of the address is held; tells whether it is, and changes nothing where
+    /// it is not.
+    #[inline(always)]
+    pub fn try_store(&mut self, address: u32, width: Width, value: u32) -> bool
+        requires { IsTrue (is_aligned address width) }
+        ensures there { result ≡ has_line self.old (line address) }
+        ensures after { self.new ≡ stored_if_held self.old address width value }
+    {
+        let line = line_of(address);
+        let set = self.set_of(line);
+        match &mut self.slots[set] {
+            Some(held) if held.line == line => {
+                held.write(address, width, value);
+                true
+            }
+            _ => false,
+        }
     }
 
     /// Puts a clean line into its set, in place of what the set held, which was not dirty.
@@ -134,10 +168,12 @@ impl DCache {
         requires { is_dirty (slot_at self.old (own_set self.old line)) ≡ false }
         ensures { self.new ≡ filled self.old line words.now }
     {
-        let set = set_of(line, self.sets) as usize;
-        self.tags[set] = Some(line);
-        self.lines[set] = *words;
-        self.dirty[set] = false;
+        let set = self.set_of(line);
+        self.slots[set] = Some(Held {
+            line,
+            words: *words,
+            dirty: false,
+        });
     }
 
     /// Empties a set, without write-back, as `initd` does.
@@ -145,7 +181,7 @@ impl DCache {
         requires { set < length self.old }
         ensures { self.new ≡ set_dropped self.old set }
     {
-        self.tags[set as usize] = None;
+        self.slots[set as usize] = None;
     }
 
     /// Drops a line where it is held, without write-back, as `initda` does; another line of its set
@@ -153,9 +189,54 @@ impl DCache {
     pub fn drop_line(&mut self, line: u32)
         ensures { self.new ≡ line_dropped self.old line }
     {
-        let set = set_of(line, self.sets);
         if self.has(line) {
-            self.drop_set(set);
+            let set = self.set_of(line);
+            self.slots[set] = None;
         }
+    }
+
+    /// The set that keeps a line. Their number is a power of two.
+    #[inline(always)]
+    #[tactic(auto, using(crate::proofs::Masks::mask_is_rest))]
+    fn set_of(&self, line: u32) -> usize
+        ensures set { result ≡ own_set self.now line }
+        ensures below { result < length self.now }
+    {
+        line as usize & (self.slots.len() - 1)
+    }
+}
+
+impl Held {
+    ghost use Rattle.n2_word.specs.Words.{is_aligned};
+    ghost use Rattle.n2_dcache.specs.Cache.{read_in, stored_in};
+
+    /// The byte, half or word at an address of this line.
+    #[inline(always)]
+    fn read(&self, address: u32, width: Width) -> u32
+        requires { IsTrue (is_aligned address width) }
+        ensures { result ≡ read_in address width self.now }
+    {
+        extract(self.words[(address % 32 / 4) as usize], address % 4, width)
+    }
+
+    /// Writes the low bits of a value at an address of this line.
+    #[inline(always)]
+    fn write(&mut self, address: u32, width: Width, value: u32)
+        requires { IsTrue (is_aligned address width) }
+        ensures { self.new ≡ stored_in address width value self.old }
+    {
+        let place = (address % 32 / 4) as usize;
+        self.words[place] = merge(self.words[place], address % 4, width, value);
+        self.dirty = true;
+    }
+}
+
+/// The empty sets of a cache of so many bytes.
+fn empty_slots(alloc: Global, bytes: u32) -> Result<Vec<Option<Held>>, NoMemory>
+    ensures { IfOk result (λ slots. slots.items ≡ opened bytes) }
+{
+    match vec![in alloc; None; (bytes / 32) as usize] {
+        Ok(slots) => Ok(slots),
+        Err(_) => Err(NoMemory),
     }
 }

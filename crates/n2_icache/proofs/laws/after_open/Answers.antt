@@ -1,8 +1,0 @@
-use Rattle.n2_icache.proofs.Maps.{length-opened, held_line-opened}
-use Rattle.n2_icache.proofs.laws.after_open.Goals as goal
-
-pub returns-clause-sets : goal.returns-clause-sets
-returns-clause-sets c = length-opened
-
-pub returns-clause-nothing : goal.returns-clause-nothing
-returns-clause-nothing c = held_line-opened

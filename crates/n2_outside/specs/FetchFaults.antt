@@ -1,9 +1,14 @@
 -- Why a fetch gives no file.
-use Rattle.std.specs.Prelude.{◌≡◌, ℕ, ◌<◌, List, length, Option, Some, None, IsSomeAnd, ⊤}
+use Rattle.std.specs.Prelude.{◌≡◌, ℕ, ◌<◌, List, length, Bool, true, false, Option, Some, None, Result, Err, IsSomeAnd, ⊤}
 use Rattle.n2_outside.specs.declared.FetchFault.{FetchFault}
 use Rattle.n2_outside.specs.declared.FetchFault.TheVariants.{Absent, TooLong, Failed, NoMemory}
 use Rattle.n2_outside.specs.Faults.{Rose}
 use Rattle.n2_outside.specs.Files.{file_at}
+
+-- whether a fetch answers that the outside failed
+abbrev pub is_failed : {F : Type 0} → Result F FetchFault → Bool
+is_failed (Err Failed) = true
+is_failed answer = false
 
 -- what a fault says of the name's file and of the count of faults before and after the call
 abbrev pub HasFetchCause : Option (List (List ℕ × List ℕ)) → ℕ → ℕ → List ℕ → ℕ → FetchFault → Type 0

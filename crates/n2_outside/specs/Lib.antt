@@ -3,3 +3,4 @@ pub mod Files
 pub mod FetchFaults
 pub mod Bytes
 pub mod Memory
+pub mod System

@@ -2,7 +2,7 @@
 //! written meaning and a count of faults that never falls.
 #![tactic(auto)]
 
-ghost use Rattle.std.specs.Prelude.{◌≡◌, ℕ, ◌≤◌, ◌<◌, ◌-◌, List, Option, take, length, MatchResult, OnOk, OnErr};
+ghost use Rattle.std.specs.Prelude.{◌≡◌, ℕ, ◌≤◌, ◌<◌, ◌-◌, List, Option, [], take, length, MatchResult, OnOk, OnErr};
 ghost use Rattle.n2_outside.specs.Faults.{HasCause};
 ghost use Rattle.n2_outside.specs.Files.{IsFile};
 ghost use Rattle.n2_outside.specs.Bytes.{appended, IsPart, Puts, PutsFront};
@@ -12,7 +12,7 @@ mod system;
 
 pub use memory::{MemFolder, MemSink, NullSink};
 use std::alloc::Global;
-pub use system::{DirFolder, StdSink};
+pub use system::{DirFolder, StdSink, WriteSink};
 
 /// Why a file was not fetched.
 #[derive(Clone, Copy, Debug, PartialEq, Eq)]
@@ -38,7 +38,7 @@ pub trait Folder {
     /// The files by their names, where they are told. They never change.
     ghost files: { Self → Option (List (List ℕ × List ℕ)) };
 
-    /// How many fetches failed; it never falls.
+    /// How many fetches failed; it never falls, and stands still at a fetch that gives a file.
     ghost faults: { Self → ℕ };
 
     /// The bytes of a file of at most `most` bytes. Over a folder that tells its files, `Absent` and
@@ -47,7 +47,8 @@ pub trait Folder {
     fn fetch(&mut self, alloc: Global, name: &str, most: usize) -> Result<Vec<u8>, FetchFault>
         ensures fetched { MatchResult result (λ v. IsFile (files self.old) name.now most v.items) (λ fault. HasFetchCause (files self.old) (faults self.old) (faults self.new) name.now most fault) }
         ensures same { files self.new ≡ files self.old }
-        ensures later { faults self.old ≤ faults self.new };
+        ensures later { faults self.old ≤ faults self.new }
+        ensures kept { OnOk result (faults self.new ≡ faults self.old) };
 }
 
 /// Where bytes are put.
@@ -55,7 +56,7 @@ pub trait Sink {
     /// The bytes that were put, where they are told.
     ghost told: { Self → Option (List ℕ) };
 
-    /// How many puts failed; it never falls.
+    /// How many puts failed; it never falls, and stands still at a put that does not fail.
     ghost faults: { Self → ℕ };
 
     /// Appends the front of a piece, and answers how many bytes of it, at least one where the piece
@@ -66,11 +67,12 @@ pub trait Sink {
         ensures cause { HasCause (faults self.old) (faults self.new) result };
 }
 
-/// Appends a whole text. `Failed` has appended a front of it, and comes only where the count of
-/// faults rose.
+/// Appends a whole text; an empty one makes no put. `Failed` has appended a front of it, and comes
+/// only where the count of faults rose.
 pub fn put_all<S: Sink>(sink: &mut S, text: &[u8]) -> Result<(), Failed>
     ensures all { OnOk result (S.told sink.new ≡ appended (S.told sink.old) text.now) }
     ensures front { OnErr result (PutsFront (S.told sink.old) (S.told sink.new) text.now) }
+    ensures empty { text.now ≡ [] → sink.new ≡ sink.old }
     ensures cause { HasCause (S.faults sink.old) (S.faults sink.new) result }
 {
     let mut at = 0;

@@ -1,10 +1,10 @@
 //! A folder and sinks in memory, which fail on demand.
 
-ghost use Rattle.std.specs.Prelude.{◌≡◌, ℕ, ◌+◌, ◌-◌, ◌<◌, ◌≤◌, ◌^◌, [], ◌++◌, take, length, min, map, Some, None, Err, IfOk, IsErr, IsErrOf, IsTrue, ◌↔◌, vec_len, MatchResult, string_bytes, option_map};
+ghost use Rattle.std.specs.Prelude.{◌≡◌, ℕ, ◌+◌, ◌-◌, ◌<◌, ◌≤◌, ◌^◌, [], ◌++◌, take, length, min, map, Some, None, Err, IfOk, IsErr, IsErrOf, is_err, IsTrue, ◌↔◌, vec_len, MatchResult, string_bytes, option_map};
 ghost use Rattle.std.specs.List.{Contains};
-ghost use Rattle.n2_outside.specs.Faults.{HasCause, next};
+ghost use Rattle.n2_outside.specs.Faults.{HasCause, counted, next};
 ghost use Rattle.n2_outside.specs.Files.{IsFile, file_at};
-ghost use Rattle.n2_outside.specs.FetchFaults.{HasFetchCause};
+ghost use Rattle.n2_outside.specs.FetchFaults.{HasFetchCause, is_failed};
 ghost use Rattle.n2_outside.specs.Bytes.{Puts, IsPart, IsFailing};
 
 use crate::{Failed, FetchFault, Folder, Sink};
@@ -65,7 +65,8 @@ impl Folder for MemFolder {
         ensures same { self.new.files ≡ self.old.files }
         ensures later { self.old.faults ≤ self.new.faults }
         ensures fails { IsErrOf result FetchFault.Failed ↔ Contains self.old.failing (next self.old.calls) }
-        ensures counts { self.new.calls ≡ next self.old.calls }
+        ensures counts { self.new.faults ≡ counted (is_failed result) self.old.faults }
+        ensures calls { self.new.calls ≡ next self.old.calls }
         ensures keeps { self.new.failing ≡ self.old.failing }
     {
         self.calls = self.calls.saturating_add(1);
@@ -159,7 +160,8 @@ impl Sink for MemSink {
         ensures cause { HasCause self.old.faults self.new.faults result }
         ensures fails { IsErr result ↔ IsFailing self.old.failing self.old.room self.old.bytes (next self.old.puts) piece.now }
         ensures takes { IfOk result (λ n. n ≡ min (length piece.now) (min self.old.most (self.old.room - length self.old.bytes))) }
-        ensures counts { self.new.puts ≡ next self.old.puts }
+        ensures counts { self.new.faults ≡ counted (is_err result) self.old.faults }
+        ensures puts { self.new.puts ≡ next self.old.puts }
         ensures keeps { (self.new.failing ≡ self.old.failing) × (self.new.most ≡ self.old.most) × (self.new.room ≡ self.old.room) }
     {
         self.puts = self.puts.saturating_add(1);

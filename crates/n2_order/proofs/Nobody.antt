@@ -6,7 +6,8 @@ use Rattle.std.proofs.lemmas.Bool.{cases_lt, cond-true, lt-ltb, and_from}
 use Rattle.std.proofs.lemmas.List.{drop-replicate, get_or-replicate}
 use Rattle.rand_pcg.specs.Lcg.{Lcg}
 use Rattle.rand_pcg.specs.Pcg.{pcg32}
-use Rattle.n2_order.specs.Choices.{State, InRound, Drawing, Listed, is_running, running, lowest_from, or_else, next_in_cycle, begun, next_in_round, drawn, next_listed, then_chosen, chosen, words_of}
+use Rattle.std.specs.Option.{option_or}
+use Rattle.n2_order.specs.Choices.{State, InRound, Drawing, Listed, is_running, running, lowest_from, next_in_cycle, begun, next_in_round, drawn, next_listed, then_chosen, chosen, words_of}
 
 -- of so many actors none is over
 abbrev nobody : ℕ → List Bool
@@ -37,12 +38,12 @@ cycle : (actors a : ℕ) → a < actors → next_in_cycle a (nobody actors) ≡ 
 cycle actors a lt =
     elim (cases_lt (a + 1) actors) [
       | inl within ↦
-          ap (λ o. or_else o (lowest_from 0 (nobody actors))) (lowest_within (a + 1) actors within)
+          ap (λ o. option_or o (lowest_from 0 (nobody actors))) (lowest_within (a + 1) actors within)
           ∙ ap (λ (n : ℕ). Some n) (sym (mod-eq_of_lt within))
       | inr past ↦
           let last : a + 1 ≡ actors + 0 = omega arith in
           let some : 0 < actors = omega arith in
-          ap (λ o. or_else o (lowest_from 0 (nobody actors))) (lowest_past (a + 1) actors past)
+          ap (λ o. option_or o (lowest_from 0 (nobody actors))) (lowest_past (a + 1) actors past)
           ∙ lowest_within 0 actors some
           ∙ ap (λ (n : ℕ). Some n) (sym (ap (λ n. n % actors) last ∙ add-mod_left actors 0 ∙ mod-eq_of_lt some))
     ]

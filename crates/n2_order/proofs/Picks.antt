@@ -5,7 +5,8 @@ use Rattle.std.proofs.lemmas.Bool.{cases_Bool, cond-true, cond-false, true≢fal
 use Rattle.std.proofs.lemmas.Option.{none-some, same_Some, slice_get_within, get_or_from_slice_get}
 use Rattle.rand_pcg.specs.Lcg.{Lcg}
 use Rattle.rand_pcg.specs.Pcg.{pcg32}
-use Rattle.n2_order.specs.Choices.{State, InRound, Drawing, Listed, is_running, running, lowest_from, or_else, next_in_cycle, begun, next_in_round, drawn, next_listed, next_of, Choosing, picked, moved}
+use Rattle.std.specs.Option.{option_or}
+use Rattle.n2_order.specs.Choices.{State, InRound, Drawing, Listed, is_running, running, lowest_from, next_in_cycle, begun, next_in_round, drawn, next_listed, next_of, Choosing, picked, moved}
 
 -- an actor that may be picked
 abbrev pub Runs : List Bool → ℕ → Type 0
@@ -35,13 +36,13 @@ lowest_runs n over a e =
     let same : a ≡ n + i.0 = sym f.1 ∙ i.1 in
     ap (slice_get over) same ∙ sym (slice_get-drop over n i.0) ∙ i.2
 
-or_else_runs : (over : List Bool) (o other : Option ℕ) (a : ℕ) → ((x : ℕ) → o ≡ Some x → Runs over x) → ((x : ℕ) → other ≡ Some x → Runs over x) → or_else o other ≡ Some a → Runs over a
-or_else_runs over None other a f g e = g a e
-or_else_runs over (Some x) other a f g e = f a e
+first_runs : (over : List Bool) (o other : Option ℕ) (a : ℕ) → ((x : ℕ) → o ≡ Some x → Runs over x) → ((x : ℕ) → other ≡ Some x → Runs over x) → option_or o other ≡ Some a → Runs over a
+first_runs over None other a f g e = g a e
+first_runs over (Some x) other a f g e = f a e
 
 cycle_runs : (actor : ℕ) (over : List Bool) (a : ℕ) → next_in_cycle actor over ≡ Some a → Runs over a
 cycle_runs actor over a e =
-    or_else_runs over (lowest_from (actor + 1) over) (lowest_from 0 over) a (λ x. lowest_runs (actor + 1) over x) (λ x. lowest_runs 0 over x) e
+    first_runs over (lowest_from (actor + 1) over) (lowest_from 0 over) a (λ x. lowest_runs (actor + 1) over x) (λ x. lowest_runs 0 over x) e
 
 running_is : (over : List Bool) (a : ℕ) → is_running over a ≡ true → Runs over a
 running_is [] a h = absurd (false≢true h)
@@ -119,9 +120,9 @@ none_is : (xs : List ℕ) → slice_get xs 0 ≡ None → xs ≡ []
 none_is [] e = refl
 none_is (x ∷ xs) e = absurd (none-some x (sym e))
 
-or_else_none : (o other : Option ℕ) → or_else o other ≡ None → other ≡ None
-or_else_none None other e = e
-or_else_none (Some x) other e = absurd (none-some x (sym e))
+none_in_cycle : (o other : Option ℕ) → option_or o other ≡ None → other ≡ None
+none_in_cycle None other e = e
+none_in_cycle (Some x) other e = absurd (none-some x (sym e))
 
 begun_none : (turns : ℕ) (o : Option ℕ) → begun turns o ≡ None → o ≡ None
 begun_none turns None e = refl
@@ -136,7 +137,7 @@ round_none turns actor left over e =
       | inl goes ↦ absurd (none-some (actor, InRound turns actor (left - 1)) (sym e ∙ cond-true goes_on here there goes))
       | inr stops ↦
           let cycle : next_in_cycle actor over ≡ None = begun_none turns (next_in_cycle actor over) (sym (cond-false goes_on here there stops) ∙ e) in
-          no_running 0 over (none_is (running 0 over) (or_else_none (lowest_from (actor + 1) over) (lowest_from 0 over) cycle))
+          no_running 0 over (none_is (running 0 over) (none_in_cycle (lowest_from (actor + 1) over) (lowest_from 0 over) cycle))
     ]
 
 drawn_none : (word : ℕ × Lcg) (actors : List ℕ) → drawn word actors ≡ None → actors ≡ []

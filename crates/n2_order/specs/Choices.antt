@@ -1,5 +1,6 @@
 -- The chosen order: which actor goes next, by which actors are over.
 use Rattle.std.specs.Prelude.{ℕ, zero, suc, ◌+◌, ◌-◌, ◌%◌, List, [], ◌∷◌, length, drop, get_or, slice_get, slice_index, Bool, true, not, ◌&&◌, nat_lt, Option, Some, None, option_map, if◌then◌else◌}
+use Rattle.std.specs.Option.{option_or}
 use Rattle.rand_core.specs.Pcg32Seed.{pcg32_seed}
 use Rattle.rand_pcg.specs.Lcg.{Lcg}
 use Rattle.rand_pcg.specs.Pcg.{pcg32, pcg32_of_seed}
@@ -31,14 +32,9 @@ running first (over ∷ rest) = if over then running (first + 1) rest else first
 abbrev pub lowest_from : ℕ → List Bool → Option ℕ
 lowest_from actor over = slice_get (running actor (drop actor over)) 0
 
--- the first of two
-abbrev pub or_else : Option ℕ → Option ℕ → Option ℕ
-or_else None other = other
-or_else (Some actor) other = Some actor
-
 -- the next actor in the cycle that is not over
 abbrev pub next_in_cycle : ℕ → List Bool → Option ℕ
-next_in_cycle actor over = or_else (lowest_from (actor + 1) over) (lowest_from 0 over)
+next_in_cycle actor over = option_or (lowest_from (actor + 1) over) (lowest_from 0 over)
 
 -- an actor's first turn of its round
 abbrev pub begun : ℕ → Option ℕ → Option (ℕ × State)

@@ -1,6 +1,6 @@
 -- Order words: rounds of turns, a seed, or a file that lists actors.
 use Rattle.std.specs.Prelude.{ℕ, ◌-◌, ◌^◌, ◌<◌, List, [], ◌∷◌, length, Option, Some, None, option_map, ◌==◌, if◌then◌else◌, codes}
-use Rattle.n2_text.specs.Fields.{numeral, at_most}
+use Rattle.n2_text.specs.Fields.{numeral, at_most, from_one}
 use Rattle.n2_order.specs.declared.words.Order.{Order}
 use Rattle.n2_order.specs.declared.words.Order.TheVariants as order
 
@@ -27,11 +27,6 @@ abbrev pub behind : List ℕ → List ℕ → Option (List ℕ)
 behind [] text = Some text
 behind (k ∷ key) [] = None
 behind (k ∷ key) (c ∷ text) = if c == k then behind key text else None
-
--- a number where it is not 0
-abbrev pub from_one : Option ℕ → Option ℕ
-from_one None = None
-from_one (Some n) = if n == 0 then None else Some n
 
 -- rounds of 1 to 1,000,000 turns
 abbrev pub rounds_of : List ℕ → Option Asked

@@ -1,10 +1,9 @@
 //! Order words.
 
-ghost use Rattle.std.specs.Prelude.{◌≡◌, ◌+◌, ◌-◌, ◌*◌, ◌^◌, ◌<◌, IfSome, option_map};
+ghost use Rattle.std.specs.Prelude.{◌≡◌, IfSome, option_map};
 ghost use Rattle.n2_order.specs.Orders.{behind as behind_key};
-ghost use Rattle.n2_text.specs.Fields.{numeral, digits_after, at_most};
 
-use n2_text::numeral_up_to;
+use n2_text::{numeral, numeral_up_to};
 
 /// The order in which actors take their turns, as an order word names it.
 #[derive(Clone, Copy, Debug, PartialEq, Eq)]
@@ -37,7 +36,7 @@ impl<'a> Order<'a> {
             };
         }
         if let Some(digits) = behind("seed:", word) {
-            return Some(Order::Seed(numeral_64(digits.as_bytes())?));
+            return Some(Order::Seed(numeral(digits.as_bytes())?));
         }
         let name = behind("list:", word)?;
         if name.is_empty() {
@@ -53,38 +52,4 @@ fn behind<'a>(key: &str, text: &'a str) -> Option<&'a str>
     ensures { option_map (λ x. x.now) result ≡ behind_key key.now text.now }
 {
     text.strip_prefix(key)
-}
-
-/// The number below 2^64 that a text is.
-fn numeral_64(text: &[u8]) -> Option<u64>
-    ensures { result ≡ at_most (2 ^ 64 - 1) (numeral text.now) }
-{
-    match text {
-        [] => None,
-        [b'0'] => Some(0),
-        [b'0', ..] => None,
-        _ => digits_64(text),
-    }
-}
-
-/// The number below 2^64 that digits are.
-fn digits_64(text: &[u8]) -> Option<u64>
-    ensures { result ≡ at_most (2 ^ 64 - 1) (digits_after 0 text.now) }
-{
-    let mut n = 0u64;
-    for c in text {
-        if !c.is_ascii_digit() {
-            return None;
-        }
-        n = with_digit(n, *c - 48)?;
-    }
-    Some(n)
-}
-
-/// A number with one more digit, where it is below 2^64.
-fn with_digit(n: u64, digit: u8) -> Option<u64>
-    requires { digit < 10 }
-    ensures { result ≡ at_most (2 ^ 64 - 1) (Some (10 * n + digit)) }
-{
-    n.checked_mul(10)?.checked_add(u64::from(digit))
 }

@@ -1,6 +1,0 @@
-use Rattle.std.proofs.Common.{◌≡◌, ◌≤◌, ◌-◌, ◌^◌, drop}
-use Rattle.n2_text.specs.Fields.{digits_after, at_most}
-use Rattle.n2_order.proofs.words.digits_64.Given as goal
-
-abbrev pub invariant-loop-c : goal.invariant-loop-c
-invariant-loop-c l = (l.n ≤ 2 ^ 64 - 1) × (at_most (2 ^ 64 - 1) (digits_after l.n (drop l.c-index l.text)) ≡ at_most (2 ^ 64 - 1) (digits_after 0 l.text))

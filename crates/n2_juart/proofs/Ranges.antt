@@ -4,7 +4,8 @@ use Rattle.std.specs.Prelude.{if◌then◌else◌, ◌==◌, suc, Bool, true, fa
 use Rattle.std.proofs.lemmas.Bool.Decides.{nat_tests}
 use Rattle.std.proofs.lemmas.Grind.{common_steps}
 use Rattle.std.proofs.lemmas.List.Elements.{All-nil, All-drop, All-push, All-head}
-use Rattle.n2_juart.specs.Uart.{State, IsQueue, IsInRange, started, bit_of, ri_of, wi_of, data_of, control_of, value_of, after_read, takes, with_written, after_write, has_room, after_receive, after_drain, after_host}
+use Rattle.n2_word.specs.Words.{bit_of}
+use Rattle.n2_juart.specs.Uart.{State, IsQueue, IsInRange, started, ri_of, wi_of, data_of, control_of, value_of, after_read, takes, with_written, after_write, has_room, after_receive, after_drain, after_host}
 
 -- a queue without its oldest byte
 IsQueue-drop : (queue : List ℕ) (depth : ℕ) → IsQueue queue depth → IsQueue (drop 1 queue) depth

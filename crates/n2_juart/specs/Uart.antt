@@ -1,6 +1,7 @@
 -- The JTAG UART Core of the Embedded Peripherals IP User Guide, by its register map: data 0 and control 1. Offsets
 -- count words, and a word is a number below 2 ^ 32. Queues are lists of bytes, the oldest first.
-use Rattle.std.specs.Prelude.{ℕ, ◌+◌, ◌-◌, ◌*◌, ◌/◌, ◌%◌, ◌^◌, ◌<◌, ◌≤◌, Bool, true, false, not, ◌&&◌, ◌||◌, ◌==◌, nat_lt, nat_le, List, [], ◌∷◌, ◌++◌, length, drop, slice_get, All, Option, if◌then◌else◌}
+use Rattle.std.specs.Prelude.{ℕ, ◌+◌, ◌-◌, ◌*◌, ◌%◌, ◌^◌, ◌<◌, ◌≤◌, Bool, true, false, not, ◌&&◌, ◌||◌, ◌==◌, nat_lt, nat_le, List, [], ◌∷◌, ◌++◌, length, drop, slice_get, All, Option, if◌then◌else◌}
+use Rattle.n2_word.specs.Words.{bit_of, has_bit}
 
 -- the queues and the fields of the registers
 pub record State : Type 0 where
@@ -19,14 +20,6 @@ pub record State : Type 0 where
 abbrev pub started : ℕ → ℕ → State
 started read_depth write_depth =
     record { read_queue = []; read_depth = read_depth; write_queue = []; write_depth = write_depth; re = false; we = false; ac = false }
-
--- a bit as a number
-abbrev pub bit_of : Bool → ℕ
-bit_of on = if on then 1 else 0
-
--- whether a word has a bit set
-abbrev pub has_bit : ℕ → ℕ → Bool
-has_bit word bit = word / 2 ^ bit % 2 == 1
 
 -- the byte that a word for the data register has
 abbrev pub byte_in : ℕ → ℕ

@@ -1,6 +1,7 @@
 -- The Mailbox of the Embedded Peripherals IP User Guide, one message deep, by the registers of its two sides:
 -- Command 0, Pointer 1, Status 2 and Mask 3. Offsets count words, and a word is a number below 2 ^ 32.
-use Rattle.std.specs.Prelude.{ℕ, ◌/◌, ◌%◌, ◌^◌, ◌<◌, Bool, true, false, not, ◌&&◌, ◌||◌, ◌==◌, if◌then◌else◌}
+use Rattle.std.specs.Prelude.{ℕ, ◌*◌, ◌^◌, ◌<◌, Bool, true, false, not, ◌&&◌, ◌||◌, ◌==◌, if◌then◌else◌}
+use Rattle.n2_word.specs.Words.{bit_of, has_bit}
 use Rattle.n2_mailbox.specs.declared.Side.{Side}
 use Rattle.n2_mailbox.specs.declared.Side.TheVariants.{Send, Receive}
 
@@ -23,12 +24,12 @@ started = record { command = 0; pointer = 0; waiting = false; send_mask = false;
 
 -- the Status register of either side
 abbrev pub status_of : State → ℕ
-status_of state = if state.waiting then 3 else 0
+status_of state = 3 * bit_of state.waiting
 
 -- the Mask register of a side
 abbrev pub mask_of : State → Side → ℕ
-mask_of state Send = if state.send_mask then 2 else 0
-mask_of state Receive = if state.receive_mask then 1 else 0
+mask_of state Send = 2 * bit_of state.send_mask
+mask_of state Receive = bit_of state.receive_mask
 
 -- what a read answers
 abbrev pub value_of : State → Side → ℕ → ℕ
@@ -60,8 +61,8 @@ takes state Receive offset word = offset == 3
 
 -- the state with a word in the Mask register of a side, which keeps one bit
 abbrev pub with_mask : State → Side → ℕ → State
-with_mask state Send word = record state { send_mask = word / 2 % 2 == 1 }
-with_mask state Receive word = record state { receive_mask = word % 2 == 1 }
+with_mask state Send word = record state { send_mask = has_bit word 1 }
+with_mask state Receive word = record state { receive_mask = has_bit word 0 }
 
 -- the state with a word in a register; a word in Command makes a message wait
 abbrev pub with_register : State → Side → ℕ → ℕ → State

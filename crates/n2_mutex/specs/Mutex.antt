@@ -1,6 +1,7 @@
 -- The Mutex Core of the Embedded Peripherals IP User Guide, as its register map has it.
 -- Offsets count words, and a word is a number below 2 ^ 32.
 use Rattle.std.specs.Prelude.{ℕ, ◌+◌, ◌*◌, ◌/◌, ◌%◌, ◌^◌, ◌<◌, Bool, true, not, ◌&&◌, ◌||◌, ◌==◌, if◌then◌else◌}
+use Rattle.n2_word.specs.Words.{bit_of, has_bit}
 
 -- the fields of the registers, in the order of the register map
 pub record State : Type 0 where
@@ -23,15 +24,11 @@ owner_in word = word / 2 ^ 16
 abbrev pub value_in : ℕ → ℕ
 value_in word = word % 2 ^ 16
 
--- whether a word for the reset register has RESET as 1
-abbrev pub reset_in : ℕ → Bool
-reset_in word = word % 2 == 1
-
 -- what a read answers
 abbrev pub value_of : State → ℕ → ℕ
 value_of state offset =
     if offset == 0 then state.owner * 2 ^ 16 + state.value
-    else (if state.reset then 1 else 0)
+    else bit_of state.reset
 
 -- a read changes nothing
 abbrev pub after_read : State → ℕ → State
@@ -53,7 +50,7 @@ with_owner_and_value state word =
 abbrev pub after_write : State → ℕ → ℕ → State
 after_write state offset word =
     if offset == 0 then with_owner_and_value state word
-    else record state { reset = state.reset && not (reset_in word) }
+    else record state { reset = state.reset && not (has_bit word 0) }
 
 -- the fields have the widths of the register map
 pub record IsInRange (state : State) : Type 0 where

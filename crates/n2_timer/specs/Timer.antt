@@ -2,6 +2,7 @@
 -- periodl 2, periodh 3, snapl 4 and snaph 5. Each register has 16 bits. Offsets count words, and a word is a
 -- number below 2 ^ 32.
 use Rattle.std.specs.Prelude.{ℕ, zero, suc, ◌+◌, ◌-◌, ◌*◌, ◌/◌, ◌%◌, ◌^◌, ◌<◌, Bool, true, false, not, ◌&&◌, ◌||◌, ◌==◌, if◌then◌else◌}
+use Rattle.n2_word.specs.Words.{bit_of, has_bit}
 
 -- the fields of the registers, in the order of the register map, and the counter
 pub record State : Type 0 where
@@ -22,14 +23,6 @@ pub record State : Type 0 where
 abbrev pub started : ℕ → State
 started period =
     record { to = false; run = false; ito = false; cont = false; period = period; snapshot = 0; counter = period }
-
--- a bit as a number
-abbrev pub bit_of : Bool → ℕ
-bit_of on = if on then 1 else 0
-
--- whether a word has a bit set
-abbrev pub has_bit : ℕ → ℕ → Bool
-has_bit word bit = word / 2 ^ bit % 2 == 1
 
 -- the low half of a number of 32 bits, and its high half
 abbrev pub low_half : ℕ → ℕ

@@ -2,7 +2,7 @@
 //! (Embedded Peripherals IP User Guide, Interval Timer Core).
 #![tactic(auto)]
 
-ghost use Rattle.std.specs.Prelude.{◌≡◌, ◌<◌};
+ghost use Rattle.std.specs.Prelude.{◌≡◌, ◌+◌, ◌%◌, ◌<◌};
 
 use std::marker::Model;
 
@@ -52,7 +52,7 @@ impl Model for Timer {
 }
 
 impl Timer {
-    ghost use Rattle.n2_timer.specs.Timer.{started, value_of, after_write, tick, ticks, is_on, low_half, high_half, with_control, with_period};
+    ghost use Rattle.n2_timer.specs.Timer.{started, value_of, after_write, ticks, is_on, low_half, high_half, with_control, with_period};
 
     /// A timer that stands, with the period in its period registers and its counter, and all else 0
     /// (Interval Timer Core, register map). The period is one less than the number of ticks of a round.
@@ -103,12 +103,24 @@ impl Timer {
         }
     }
 
-    /// Gives the timer a number of ticks, one after another.
+    /// Gives the timer a number of ticks, one after another. It takes the same time for any number.
+    #[tactic(auto, using(crate::proofs::Rounds::ticks_at_once))]
     pub fn ticks(&mut self, n: u32)
         ensures { self.new ≡ ticks n self.old }
     {
-        for _i in 0..n {
-            self.tick();
+        if !self.run {
+            return;
+        }
+        if n <= self.counter {
+            self.counter -= n;
+            return;
+        }
+        let after_zero = n - self.counter - 1;
+        self.to = true;
+        self.run = self.cont;
+        self.counter = self.period;
+        if self.cont {
+            self.counter -= past_rounds(after_zero, self.period);
         }
     }
 
@@ -117,22 +129,6 @@ impl Timer {
         ensures { result ≡ is_on self.now }
     {
         self.to && self.ito
-    }
-
-    /// One tick.
-    fn tick(&mut self)
-        ensures { self.new ≡ tick self.old }
-    {
-        if !self.run {
-            return;
-        }
-        if self.counter == 0 {
-            self.to = true;
-            self.counter = self.period;
-            self.run = self.cont;
-        } else {
-            self.counter -= 1;
-        }
     }
 
     /// Takes a word for the control register: ITO, CONT, START and STOP.
@@ -158,6 +154,13 @@ impl Timer {
     }
 }
 
+/// What is left of some ticks after whole rounds, each of a period and one tick.
+fn past_rounds(ticks: u32, period: u32) -> u32
+    ensures { result ≡ ticks % (period + 1) }
+{
+    (u64::from(ticks) % (u64::from(period) + 1)) as u32
+}
+
 #[cfg(test)]
 mod tests {
     use super::*;
@@ -168,18 +171,29 @@ mod tests {
 
     #[test]
     fn nine_ticks_of_period_three(rt: HostRuntime) {
-        let mut timer = Timer::new(3);
-        timer.write(1, 6);
-        timer.ticks(9);
-        timer.write(4, 0);
-        assert_eq!(rt; (timer.read(0), timer.read(4), timer.read(5)), (3, 2, 0));
-        let mut single = Timer::new(3);
-        single.write(1, 6);
-        for _i in 0..9u32 {
-            single.ticks(1);
+        for (control, registers) in [(6, (3, 2, 0)), (4, (1, 3, 0))] {
+            let mut timer = Timer::new(3);
+            timer.write(1, control);
+            timer.ticks(9);
+            timer.write(4, 0);
+            assert_eq!(rt; (timer.read(0), timer.read(4), timer.read(5)), registers);
+            let mut single = Timer::new(3);
+            single.write(1, control);
+            for _i in 0..9u32 {
+                single.ticks(1);
+            }
+            single.write(5, 0);
+            assert_eq!(rt; (single.read(0), single.read(4), single.read(5)), registers);
         }
-        single.write(5, 0);
-        assert_eq!(rt; (single.read(0), single.read(4), single.read(5)), (3, 2, 0));
+    }
+
+    #[test]
+    fn as_many_ticks_as_a_word_counts(rt: HostRuntime) {
+        let mut timer = Timer::new(0);
+        timer.write(1, 6);
+        timer.ticks(4_294_967_295);
+        timer.write(4, 0);
+        assert_eq!(rt; (timer.read(0), timer.read(4), timer.read(5)), (3, 0, 0));
         crosses(timer);
     }
 

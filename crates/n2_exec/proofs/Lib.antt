@@ -3,3 +3,5 @@ pub mod Bits
 pub mod Sizes
 pub mod Words
 pub mod Fetched
+pub mod Shifts
+pub mod Integers

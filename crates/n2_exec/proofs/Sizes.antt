@@ -25,7 +25,7 @@ small_truth false = omega arith
 small_and : (a b : ℕ) → a < 2 ^ 32 → bit_and a b < 2 ^ 32
 small_and a b h = omega (arith, and_le_l a b)
 
-fits : (a : ℕ) → a < 2 ^ 32 → FitsSigned w32 (to_z w32 a)
+pub fits : (a : ℕ) → a < 2 ^ 32 → FitsSigned w32 (to_z w32 a)
 fits a h = search rules
 
 small_bits : (z : ℤ) → FitsSigned w32 z → of_z w32 z < 2 ^ 32
@@ -41,19 +41,18 @@ abs_le : (z : ℤ) → mag z < 2 ^ 31 → unsigned_abs z ≤ 2 ^ 31
 abs_le (pos n) h = omega arith
 abs_le (negsuc n) h = omega arith
 
-small_mulxss : (a b : ℕ) → a < 2 ^ 32 → b < 2 ^ 32 → reg_value Mulxss a b < 2 ^ 32
-small_mulxss a b ha hb =
-    let product : FitsSigned w64 (to_z w32 a *ℤ to_z w32 b) =
+pub fits_signed : (a b : ℕ) → a < 2 ^ 32 → b < 2 ^ 32 → FitsSigned w64 (to_z w32 a *ℤ to_z w32 b)
+fits_signed a b ha hb =
     fits_signed_mul w64 (to_z w32 a) (to_z w32 b) (2 ^ 31) (2 ^ 31) (abs_le (to_z w32 a) (fits a ha).sfits) (abs_le (to_z w32 b) (fits b hb).sfits) (omega arith)
-    in
-    omega (arith, small_long_bits (to_z w32 a *ℤ to_z w32 b) product)
+
+pub fits_mixed : (a b : ℕ) → a < 2 ^ 32 → b < 2 ^ 32 → FitsSigned w64 (to_z w32 a *ℤ pos b)
+fits_mixed a b ha hb = fits_signed_mul w64 (to_z w32 a) (pos b) (2 ^ 31) (2 ^ 32 - 1) (abs_le (to_z w32 a) (fits a ha).sfits) (omega arith) (omega arith)
+
+small_mulxss : (a b : ℕ) → a < 2 ^ 32 → b < 2 ^ 32 → reg_value Mulxss a b < 2 ^ 32
+small_mulxss a b ha hb = omega (arith, small_long_bits (to_z w32 a *ℤ to_z w32 b) (fits_signed a b ha hb))
 
 small_mulxsu : (a b : ℕ) → a < 2 ^ 32 → b < 2 ^ 32 → reg_value Mulxsu a b < 2 ^ 32
-small_mulxsu a b ha hb =
-    let product : FitsSigned w64 (to_z w32 a *ℤ pos b) =
-    fits_signed_mul w64 (to_z w32 a) (pos b) (2 ^ 31) (2 ^ 32 - 1) (abs_le (to_z w32 a) (fits a ha).sfits) (omega arith) (omega arith)
-    in
-    omega (arith, small_long_bits (to_z w32 a *ℤ pos b) product)
+small_mulxsu a b ha hb = omega (arith, small_long_bits (to_z w32 a *ℤ pos b) (fits_mixed a b ha hb))
 
 small_mulxuu : (a b : ℕ) → a < 2 ^ 32 → b < 2 ^ 32 → a * b / 2 ^ 32 < 2 ^ 32
 small_mulxuu a b ha hb = let h : a * b ≤ (2 ^ 32 - 1) * (2 ^ 32 - 1) = mul-le-mul {n₁ = a} {m₁ = b} {n₂ = 2 ^ 32 - 1} {m₂ = 2 ^ 32 - 1} (omega arith) (omega arith) in omega arith

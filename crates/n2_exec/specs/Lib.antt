@@ -3,3 +3,4 @@ pub mod Values
 pub mod Outcomes
 pub mod Effect
 pub mod Follow
+pub mod Integers

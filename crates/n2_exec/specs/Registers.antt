@@ -1,6 +1,11 @@
 -- The registers of a core, and exceptions (Nios II Processor Reference Guide, "Registers" and "Exception Processing").
-use Rattle.std.specs.Prelude.{◌≡◌, ℕ, ◌+◌, ◌%◌, ◌^◌, ◌<◌, ◌==◌, ◌&&◌, Bool, not, List, length, All, slice_index, slice_set, bit_and, if◌then◌else◌}
-use Rattle.n2_exec.specs.declared.Regs.{Regs}
+use Rattle.std.specs.Prelude.{◌≡◌, ℕ, ◌+◌, ◌%◌, ◌^◌, ◌<◌, ◌==◌, ◌&&◌, Bool, not, List, length, replicate, All, slice_index, slice_set, bit_and, if◌then◌else◌}
+use Rattle.n2_exec.specs.declared.registers.Regs.{Regs}
+
+-- before the first instruction: all that is not given is 0
+abbrev pub reset_regs : ℕ → ℕ → ℕ → Regs
+reset_regs pc cpuid vector =
+    record { pc = pc; gpr = replicate 32 0; status = 0; estatus = 0; bstatus = 0; ienable = 0; latch = 0; cpuid = cpuid; vector = vector }
 
 -- what a register reads: r0 reads 0
 abbrev pub reg : Regs → ℕ → ℕ
@@ -9,6 +14,10 @@ reg regs n = if n == 0 then 0 else slice_index regs.gpr n
 -- the registers after a write of one of them: a write to r0 is dropped
 abbrev pub written : List ℕ → ℕ → ℕ → List ℕ
 written gpr n value = if n == 0 then gpr else slice_set gpr n value
+
+-- with a register written
+abbrev pub with_reg : Regs → ℕ → ℕ → Regs
+with_reg regs n value = record regs { gpr = written regs.gpr n value }
 
 -- the address of the next instruction
 abbrev pub next_pc : Regs → ℕ
@@ -20,11 +29,15 @@ passed_regs regs = record regs { pc = next_pc regs }
 
 -- on to the next instruction, with a register written
 abbrev pub loaded_regs : Regs → ℕ → ℕ → Regs
-loaded_regs regs to value = record regs { pc = next_pc regs; gpr = written regs.gpr to value }
+loaded_regs regs to value = passed_regs (with_reg regs to value)
 
 -- with the address of the next instruction in r31
 abbrev pub linked : Regs → Regs
-linked regs = record regs { gpr = written regs.gpr 31 (next_pc regs) }
+linked regs = with_reg regs 31 (next_pc regs)
+
+-- with status as it was before the exception
+abbrev pub restored : Regs → Regs
+restored regs = record regs { status = regs.estatus }
 
 -- a control register: status 0, estatus 1, bstatus 2, ienable 3, ipending 4, cpuid 5; others read 0
 abbrev pub control : Regs → ℕ → ℕ
@@ -60,6 +73,10 @@ raised regs =
 -- an interrupt: the same, where the program counter is at the instruction that would have run next
 abbrev pub interrupted : Regs → Regs
 interrupted regs = raised regs
+
+-- with these interrupt lines latched, in place of those latched before
+abbrev pub latched : Regs → ℕ → Regs
+latched regs lines = record regs { latch = lines }
 
 -- whether an interrupt waits: PIE is 1 and a latched line is enabled
 abbrev pub is_waiting : Regs → Bool

@@ -1,39 +1,24 @@
 //! What the instructions of Nios II do to the registers of a core, and what they ask of memory.
 #![tactic(auto)]
 
-ghost use Rattle.std.specs.Prelude.{◌≡◌, ◌<◌, IsTrue};
+ghost use Rattle.std.specs.Prelude.{◌≡◌, IsTrue};
 ghost use Rattle.n2_insn.specs.Table.{is_valid};
-ghost use Rattle.n2_exec.specs.Registers.{loaded_regs, passed_regs, raised, interrupted, is_waiting};
-ghost use Rattle.n2_exec.specs.Outcomes.{IsProper, loaded_value};
-ghost use Rattle.n2_exec.specs.Effect.{effect_of};
+ghost use Rattle.n2_exec.specs.Outcomes.{regs_of, asked_of, outcome_of, IsProper, HasAddress, loaded_value};
+ghost use Rattle.n2_exec.specs.Effect.{effect_of, effect_of_word};
 
 pub mod laws;
 mod outcomes;
+mod registers;
 mod values;
 
-use n2_insn::{DataOp, Insn};
+use n2_insn::{DataOp, Insn, decode};
 use n2_word::{Width, sign8, sign16};
 use outcomes::{
-    branch, branched, call, computed, control, data_address, divided, jumped, linked, loads,
-    low_bits, reg, stores, with_control,
+    branch, branched, called, computed, data_address, jump, jumped, loads, low_bits, next,
+    reg_outcome, returned, stores,
 };
+pub use registers::{Regs, interrupt, loaded, passed, raise, waiting};
 use values::{imm_value, shift_value};
-
-/// The registers of a core: its program counter, r0 to r31, the control registers status, estatus,
-/// bstatus and ienable, the latched interrupt lines, its cpuid and the address of its exceptions.
-/// What stands at r0 is never read.
-#[derive(Clone, Copy, Debug, PartialEq, Eq)]
-pub struct Regs {
-    pub pc: u32,
-    pub gpr: [u32; 32],
-    pub status: u32,
-    pub estatus: u32,
-    pub bstatus: u32,
-    pub ienable: u32,
-    pub latch: u32,
-    pub cpuid: u32,
-    pub vector: u32,
-}
 
 /// Why an exception is raised.
 #[derive(Clone, Copy, Debug, PartialEq, Eq)]
@@ -76,19 +61,59 @@ pub enum Outcome {
     Broke,
 }
 
-/// What an instruction does (Nios II Processor Reference Guide, "Instruction Set Reference").
-/// Nothing else of it happens where it raises.
+/// What an instruction that was done in place leaves to do: nothing where the registers are those
+/// after it. Else they are as before it, the fields are those of `Outcome`, and what is asked for
+/// moves them on: `Regs::put_loaded` after a load, `Regs::advance` after a store or an operation on
+/// a line, `Regs::take_exception` where a cause is raised.
+#[derive(Clone, Copy, Debug, PartialEq, Eq)]
+pub enum Asked {
+    Done,
+    Load {
+        address: u32,
+        width: Width,
+        signed: bool,
+        io: bool,
+        to: u8,
+    },
+    Store {
+        address: u32,
+        width: Width,
+        value: u32,
+        io: bool,
+    },
+    LineOp {
+        op: DataOp,
+        address: u32,
+    },
+    CodeOp {
+        address: u32,
+    },
+    Raise(Cause),
+    Broke,
+}
+
+/// Does an instruction to the registers, and answers what it leaves to do (Nios II Processor
+/// Reference Guide, "Instruction Set Reference"). Nothing of it happens where it raises.
+#[inline(always)]
 #[tactic(auto, unfolding(crate::specs::Effect::effect_of))]
-pub fn effect(regs: &Regs, insn: &Insn) -> Outcome
+pub fn act(regs: &mut Regs, insn: &Insn) -> Asked
     requires { IsTrue (is_valid insn.now) }
-    ensures row { result ≡ effect_of regs.now insn.now }
+    ensures registers { regs.new ≡ regs_of regs.old (effect_of regs.old insn.now) }
+    ensures asked { result ≡ asked_of (effect_of regs.old insn.now) }
     ensures proper { IsProper result }
+    ensures address { HasAddress result }
 {
     match *insn {
-        Insn::Jump { op, target } => call(regs, op, target),
-        Insn::Imm { op, a, b, imm } => computed(regs, b, imm_value(op, reg(regs, a), imm)),
+        Insn::Jump { op, target } => jump(regs, op, target),
+        Insn::Imm { op, a, b, imm } => {
+            let value = imm_value(op, regs.reg(a), imm);
+            computed(regs, b, value)
+        }
         Insn::Br { imm } => branched(regs, imm),
-        Insn::Branch { op, a, b, imm } => branch(regs, op, reg(regs, a), reg(regs, b), imm),
+        Insn::Branch { op, a, b, imm } => {
+            let (a, b) = (regs.reg(a), regs.reg(b));
+            branch(regs, op, a, b, imm)
+        }
         Insn::Load { op, io, a, b, imm } => loads(data_address(regs, a, imm), op, io, b),
         Insn::Store {
             width,
@@ -96,49 +121,124 @@ pub fn effect(regs: &Regs, insn: &Insn) -> Outcome
             a,
             b,
             imm,
-        } => { stores(data_address(regs, a, imm), width, reg(regs, b), io) }
-        Insn::Data { op, a, imm } => Outcome::LineOp {
+        } => stores(data_address(regs, a, imm), width, regs.reg(b), io),
+        Insn::Data { op, a, imm } => Asked::LineOp {
             op,
             address: data_address(regs, a, imm),
         },
-        Insn::Code { a, .. } => Outcome::CodeOp {
-            address: reg(regs, a),
+        Insn::Code { a, .. } => Asked::CodeOp {
+            address: regs.reg(a),
         },
-        Insn::Reg { op, a, b, c } => divided(regs, op, reg(regs, a), reg(regs, b), c),
-        Insn::Shift { op, a, c, by } => computed(regs, c, shift_value(op, reg(regs, a), by)),
-        Insn::Jmp { a } => jumped(*regs, reg(regs, a)),
-        Insn::Callr { a } => jumped(linked(regs), reg(regs, a)),
-        Insn::Ret => jumped(*regs, reg(regs, 31)),
-        Insn::Eret => jumped(
-            Regs {
-                status: regs.estatus,
-                ..*regs
-            },
-            reg(regs, 29),
-        ),
-        Insn::Nextpc { c } => computed(regs, c, regs.pc.wrapping_add(4)),
-        Insn::Rdctl { c, n } => computed(regs, c, control(regs, n)),
-        Insn::Wrctl { n, a } => Outcome::Next(passed(&with_control(regs, n, reg(regs, a)))),
-        Insn::Trap { .. } => Outcome::Raise(Cause::Trap),
-        Insn::Break { .. } => Outcome::Broke,
-        Insn::Flushp | Insn::Sync => Outcome::Next(passed(regs)),
+        Insn::Reg { op, a, b, c } => {
+            let (a, b) = (regs.reg(a), regs.reg(b));
+            reg_outcome(regs, op, a, b, c)
+        }
+        Insn::Shift { op, a, c, by } => {
+            let value = shift_value(op, regs.reg(a), by);
+            computed(regs, c, value)
+        }
+        Insn::Jmp { a } => {
+            let address = regs.reg(a);
+            jumped(regs, address)
+        }
+        Insn::Callr { a } => {
+            let address = regs.reg(a);
+            called(regs, address)
+        }
+        Insn::Ret => {
+            let address = regs.reg(31);
+            jumped(regs, address)
+        }
+        Insn::Eret => {
+            let address = regs.reg(29);
+            returned(regs, address)
+        }
+        Insn::Nextpc { c } => {
+            let value = regs.pc.wrapping_add(4);
+            computed(regs, c, value)
+        }
+        Insn::Rdctl { c, n } => {
+            let value = regs.control(n);
+            computed(regs, c, value)
+        }
+        Insn::Wrctl { n, a } => {
+            let value = regs.reg(a);
+            regs.set_control(n, value);
+            next(regs)
+        }
+        Insn::Trap { .. } => Asked::Raise(Cause::Trap),
+        Insn::Break { .. } => Asked::Broke,
+        Insn::Flushp | Insn::Sync => next(regs),
     }
 }
 
-/// After a load: its register has the value, and the next instruction follows.
-pub fn loaded(regs: &Regs, to: u8, value: u32) -> Regs
-    requires { to < 32 }
-    ensures { result ≡ loaded_regs regs.now to value }
+/// Does the instruction of a word to the registers, and answers what it leaves to do; a word
+/// outside of the instruction table raises.
+#[inline(always)]
+#[tactic(auto, unfolding(crate::specs::Effect::effect_of_word))]
+pub fn act_word(regs: &mut Regs, word: u32) -> Asked
+    ensures registers { regs.new ≡ regs_of regs.old (effect_of_word regs.old word) }
+    ensures asked { result ≡ asked_of (effect_of_word regs.old word) }
+    ensures proper { IsProper result }
+    ensures address { HasAddress result }
 {
-    let mut next = passed(regs);
-    if to != 0 {
-        next.gpr[usize::from(to)] = value;
+    match decode(word) {
+        Some(insn) => act(regs, &insn),
+        None => Asked::Raise(Cause::Illegal),
     }
-    next
+}
+
+/// What an instruction does, with the registers by value: `act` on a copy of them.
+pub fn effect(regs: &Regs, insn: &Insn) -> Outcome
+    requires { IsTrue (is_valid insn.now) }
+    ensures row { result ≡ effect_of regs.now insn.now }
+    ensures proper { IsProper (asked_of result) }
+{
+    let mut next = *regs;
+    let asked = act(&mut next, insn);
+    whole(next, asked)
+}
+
+/// The outcome of registers and of what is left to do.
+fn whole(regs: Regs, asked: Asked) -> Outcome
+    ensures { result ≡ outcome_of regs asked }
+{
+    match asked {
+        Asked::Done => Outcome::Next(regs),
+        Asked::Load {
+            address,
+            width,
+            signed,
+            io,
+            to,
+        } => Outcome::Load {
+            address,
+            width,
+            signed,
+            io,
+            to,
+        },
+        Asked::Store {
+            address,
+            width,
+            value,
+            io,
+        } => Outcome::Store {
+            address,
+            width,
+            value,
+            io,
+        },
+        Asked::LineOp { op, address } => Outcome::LineOp { op, address },
+        Asked::CodeOp { address } => Outcome::CodeOp { address },
+        Asked::Raise(cause) => Outcome::Raise(cause),
+        Asked::Broke => Outcome::Broke,
+    }
 }
 
 /// What a load writes, by the byte, half or word that it read: its sign is extended where `signed`
 /// says so.
+#[inline(always)]
 pub fn extended(value: u32, width: Width, signed: bool) -> u32
     ensures { result ≡ loaded_value width signed value }
 {
@@ -147,44 +247,6 @@ pub fn extended(value: u32, width: Width, signed: bool) -> u32
         Width::Half if signed => sign16((value % 0x1_0000) as u16),
         _ => low_bits(value, width),
     }
-}
-
-/// The next instruction follows: the program counter plus 4.
-pub fn passed(regs: &Regs) -> Regs
-    ensures { result ≡ passed_regs regs.now }
-{
-    Regs {
-        pc: regs.pc.wrapping_add(4),
-        ..*regs
-    }
-}
-
-/// An exception is taken (Nios II Processor Reference Guide, "Exception Processing"): status goes
-/// to estatus, PIE is cleared, r29 takes the address after the instruction.
-pub fn raise(regs: &Regs) -> Regs
-    ensures { result ≡ raised regs.now }
-{
-    let mut next = *regs;
-    next.estatus = regs.status;
-    next.status = 0;
-    next.gpr[29] = regs.pc.wrapping_add(4);
-    next.pc = regs.vector;
-    next
-}
-
-/// An interrupt is taken in place of the instruction at the program counter: r29 takes that
-/// instruction's address plus 4, all else is as for an exception.
-pub fn interrupt(regs: &Regs) -> Regs
-    ensures { result ≡ interrupted regs.now }
-{
-    raise(regs)
-}
-
-/// Whether an interrupt is to be taken: PIE is 1 and a latched line is enabled.
-pub fn waiting(regs: &Regs) -> bool
-    ensures { result ≡ is_waiting regs.now }
-{
-    regs.status % 2 == 1 && regs.latch & regs.ienable != 0
 }
 
 #[cfg(test)]

@@ -6,18 +6,21 @@ ghost use Rattle.n2_exec.specs.Values as value;
 use n2_insn::{BranchOp, ImmOp, RegOp, ShiftOp};
 use n2_word::sign16;
 
+#[inline(always)]
 fn signed_lt(a: u32, b: u32) -> bool
     ensures { result ≡ value.signed_lt a b }
 {
     a.cast_signed() < b.cast_signed()
 }
 
+#[inline(always)]
 fn signed_le(a: u32, b: u32) -> bool
     ensures { result ≡ value.signed_le a b }
 {
     a.cast_signed() <= b.cast_signed()
 }
 
+#[inline(always)]
 fn shifted_right_signed(a: u32, by: u32) -> u32
     requires { by < 32 }
     ensures { result ≡ value.shifted_right_signed a by }
@@ -26,6 +29,7 @@ fn shifted_right_signed(a: u32, by: u32) -> u32
 }
 
 /// rB by rA and the immediate.
+#[inline(always)]
 pub fn imm_value(op: ImmOp, a: u32, imm: u16) -> u32
     ensures { result ≡ value.imm_value op a imm }
 {
@@ -50,7 +54,8 @@ pub fn imm_value(op: ImmOp, a: u32, imm: u16) -> u32
 }
 
 /// Whether a branch is taken.
-pub fn takes(op: BranchOp, a: u32, b: u32) -> bool
+#[inline(always)]
+pub fn is_taken(op: BranchOp, a: u32, b: u32) -> bool
     ensures { result ≡ value.is_taken op a b }
 {
     match op {
@@ -64,7 +69,8 @@ pub fn takes(op: BranchOp, a: u32, b: u32) -> bool
 }
 
 /// Whether it is no division without a quotient.
-pub fn can_divide(op: RegOp, a: u32, b: u32) -> bool
+#[inline(always)]
+pub fn has_quotient(op: RegOp, a: u32, b: u32) -> bool
     ensures { result ≡ value.has_quotient op a b }
 {
     match op {
@@ -75,6 +81,7 @@ pub fn can_divide(op: RegOp, a: u32, b: u32) -> bool
 }
 
 /// rC by rA and rB.
+#[inline(always)]
 pub fn reg_value(op: RegOp, a: u32, b: u32) -> u32
     requires { IsTrue (value.has_quotient op a b) }
     ensures { result ≡ value.reg_value op a b }
@@ -106,6 +113,7 @@ pub fn reg_value(op: RegOp, a: u32, b: u32) -> u32
     }
 }
 
+#[inline(always)]
 fn mulxsu(a: u32, b: u32) -> u32
     ensures { result ≡ value.reg_value RegOp.Mulxsu a b }
 {
@@ -113,6 +121,7 @@ fn mulxsu(a: u32, b: u32) -> u32
     (product.cast_unsigned() >> 32) as u32
 }
 
+#[inline(always)]
 fn mulxss(a: u32, b: u32) -> u32
     ensures { result ≡ value.reg_value RegOp.Mulxss a b }
 {
@@ -121,6 +130,7 @@ fn mulxss(a: u32, b: u32) -> u32
 }
 
 /// rC by rA and a number of bits.
+#[inline(always)]
 pub fn shift_value(op: ShiftOp, a: u32, by: u8) -> u32
     requires { by < 32 }
     ensures { result ≡ value.shift_value op a by }

@@ -1,11 +1,12 @@
 -- The flat machine on the plain board: one memory, one core, and the bytes that its UART took.
 use Rattle.std.specs.Prelude.{◌≡◌, ℕ, ◌<◌, zero, suc, ◌/◌, ◌%◌, ◌^◌, List, [], ◌∷◌, ◌++◌, length, replicate, slice_index, Bool, true, false, ◌==◌, ◌||◌, Option, Some, None, Result, Ok, Err, nat_lt, nat_le, if◌then◌else◌}
 use Rattle.n2_word.specs.declared.Width.{Width}
-use Rattle.n2_word.specs.Lines.{line, without_bypass}
-use Rattle.n2_exec.specs.declared.Regs.{Regs}
+use Rattle.n2_word.specs.Lines.{line, without_bypass, bypasses}
+use Rattle.n2_exec.specs.declared.registers.Regs.{Regs}
 use Rattle.n2_exec.specs.declared.Outcome.{Outcome}
-use Rattle.n2_exec.specs.Registers.{passed_regs, loaded_regs, raised, interrupted, is_waiting}
-use Rattle.n2_exec.specs.Outcomes.{loaded_value}
+use Rattle.n2_exec.specs.declared.Asked.{Asked}
+use Rattle.n2_exec.specs.Registers.{reset_regs, passed_regs, loaded_regs, raised, interrupted, is_waiting}
+use Rattle.n2_exec.specs.Outcomes.{regs_of, asked_of, loaded_value}
 use Rattle.n2_exec.specs.Effect.{effect_of_word}
 use Rattle.n2_elf.specs.declared.image.Image.{Image}
 use Rattle.n2_parts.specs.declared.stops.Stop.{Stop}
@@ -31,12 +32,9 @@ pub record Flat : Type 0 where
 abbrev pub flat : List ℕ → PlainEnd → Flat
 flat memory end = record { memory = memory; end = end }
 
--- the registers before the first instruction: all that the image and the core's row do not give is 0
-abbrev pub started_regs : Image → Regs
-started_regs image = record { pc = first_pc plain_core image.entry; gpr = replicate 32 0; status = 0; estatus = 0; bstatus = 0; ienable = 0; latch = 0; cpuid = plain_core.cpuid; vector = plain_core.exception }
-
+-- before the first instruction: all that the image and the core's row do not give is 0
 abbrev pub started : Image → PlainEnd
-started image = record { regs = started_regs image; stop = None; sent = [] }
+started image = record { regs = reset_regs (first_pc plain_core image.entry) plain_core.cpuid plain_core.exception; stop = None; sent = [] }
 
 -- with other registers
 abbrev pub moved : Flat → Regs → Flat
@@ -83,10 +81,6 @@ store_to Nothing m word address width value = unbuilt m word
 abbrev pub HasMemory : Ground → ℕ → Type 0
 HasMemory g words = (address : ℕ) → place g address ≡ Memory → address / 4 < words
 
--- a load or store goes past the cache where its instruction says so or its address has bit 31
-abbrev pub bypasses : ℕ → Bool → Bool
-bypasses address io = io || nat_le (2 ^ 31) address
-
 abbrev pub judged_load : Option Cut → Place → Flat → ℕ → ℕ → Width → Bool → ℕ → Result Flat PlainFault
 judged_load (Some cut) there m word address width signed to = Ok (stopped m (stop_for cut m.end.regs.pc word address))
 judged_load None there m word address width signed to = load_from there m word address width signed to
@@ -95,23 +89,27 @@ abbrev pub judged_store : Option Cut → Place → Flat → ℕ → ℕ → Widt
 judged_store (Some cut) there m word address width value = Ok (stopped m (stop_for cut m.end.regs.pc word address))
 judged_store None there m word address width value = store_to there m word address width value
 
--- what an instruction of core 0 comes to; operations on cache lines find no cache here
-abbrev pub performed : Ground → Flat → ℕ → Outcome → Result Flat PlainFault
-performed g m word (Outcome.Next regs) = Ok (moved m regs)
-performed g m word (Outcome.Load address width signed io to) =
+-- what an instruction of core 0 leaves to do; operations on cache lines find no cache here
+abbrev pub performed : Ground → Flat → ℕ → Asked → Result Flat PlainFault
+performed g m word Asked.Done = Ok m
+performed g m word (Asked.Load address width signed io to) =
     judged_load (data_cut g 0 address width (bypasses address io) false) (place g (without_bypass address)) m word address width signed to
-performed g m word (Outcome.Store address width value io) =
+performed g m word (Asked.Store address width value io) =
     judged_store (data_cut g 0 address width (bypasses address io) true) (place g (without_bypass address)) m word address width value
-performed g m word (Outcome.LineOp op address) = Ok (moved m (passed_regs m.end.regs))
-performed g m word (Outcome.CodeOp address) = Ok (moved m (passed_regs m.end.regs))
-performed g m word (Outcome.Raise cause) = Ok (moved m (raised m.end.regs))
-performed g m word Outcome.Broke = Ok (stopped m Broke)
+performed g m word (Asked.LineOp op address) = Ok (moved m (passed_regs m.end.regs))
+performed g m word (Asked.CodeOp address) = Ok (moved m (passed_regs m.end.regs))
+performed g m word (Asked.Raise cause) = Ok (moved m (raised m.end.regs))
+performed g m word Asked.Broke = Ok (stopped m Broke)
+
+-- an instruction's word, by its outcome: the registers are those after it, and then what it leaves is done
+abbrev pub executed : Ground → Flat → ℕ → Outcome → Result Flat PlainFault
+executed g m word outcome = performed g (moved m (regs_of m.end.regs outcome)) word (asked_of outcome)
 
 -- a fetch is judged, and then the word at the program counter runs
 abbrev pub fetched : Ground → Option Cut → Flat → Result Flat PlainFault
 fetched g (Some cut) m = Ok (stopped m (stop_for cut m.end.regs.pc 0 m.end.regs.pc))
 fetched g None m =
-    performed g m (slice_index m.memory (m.end.regs.pc / 4)) (effect_of_word m.end.regs (slice_index m.memory (m.end.regs.pc / 4)))
+    executed g m (slice_index m.memory (m.end.regs.pc / 4)) (effect_of_word m.end.regs (slice_index m.memory (m.end.regs.pc / 4)))
 
 -- a waiting interrupt is taken; else the next instruction runs
 abbrev pub running : Ground → Flat → Result Flat PlainFault

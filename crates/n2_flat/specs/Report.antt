@@ -3,7 +3,7 @@ use Rattle.std.specs.Prelude.{ℕ, ◌/◌, ◌%◌, ◌^◌, List, [], ◌∷�
 use Rattle.std.specs.List.{flat_map}
 use Rattle.n2_text.specs.Fields.{digit_of, word_text}
 use Rattle.n2_word.specs.Lines.{base_of}
-use Rattle.n2_exec.specs.declared.Regs.{Regs}
+use Rattle.n2_exec.specs.declared.registers.Regs.{Regs}
 use Rattle.n2_parts.specs.declared.stops.Kind.{Kind}
 use Rattle.n2_parts.specs.declared.stops.Kind.TheVariants.{Separate, Lock, Invalidate, Flush}
 use Rattle.n2_parts.specs.declared.stops.Refusal.{Refusal}

@@ -2,20 +2,18 @@
 
 ghost use Rattle.std.specs.Prelude.{◌≡◌, ℕ, ◌/◌, ◌^◌, ◌<◌, [], ◌∷◌, None, length, Ok, IfOk, OnOk, MatchResult, IsTrue};
 ghost use Rattle.n2_word.specs.Words.{is_aligned};
-ghost use Rattle.n2_word.specs.Lines.{without_bypass};
+ghost use Rattle.n2_word.specs.Lines.{without_bypass, bypasses as bypasses_at};
 ghost use Rattle.n2_exec.specs.Outcomes.{IsProper};
-ghost use Rattle.n2_exec.specs.Effect.{effect_of_word};
 ghost use Rattle.n2_elf.specs.Reading.{IsSized};
 ghost use Rattle.n2_board.specs.Ground.{open_fault};
 ghost use Rattle.n2_flat.specs.PlainBoard.{plain_board, plain_ground};
-ghost use Rattle.n2_flat.specs.Machine.{started, flat, stop_for as stop_of, sent_by, bypasses as bypasses_at, load_from, store_to, performed, running, retired_times, plain, AnswersTo, HasMemory};
+ghost use Rattle.n2_flat.specs.Machine.{started, flat, stop_for as stop_of, sent_by, load_from, store_to, performed, running, retired_times, plain, AnswersTo, HasMemory};
 
 use crate::board::{EXCEPTION, MEMORY_BYTES, WRITE_DEPTH};
 use crate::memory::{open_memory, read, write};
 use n2_board::{Cut, Kind, Layout, Place, Refusal, Stop};
 use n2_elf::Image;
-use n2_exec::{Cause, Outcome, Regs, effect, extended, interrupt, loaded, passed, raise, waiting};
-use n2_insn::decode;
+use n2_exec::{Asked, Regs, act_word, extended, waiting};
 use n2_text::Items;
 use n2_word::{NoMemory, Width, line_of};
 use std::alloc::Global;
@@ -58,22 +56,11 @@ fn stop_for(cut: Cut, pc: u32, word: u32, address: u32) -> Stop
 }
 
 /// Whether a load or store goes past the cache.
+#[inline(always)]
 fn bypasses(address: u32, io: bool) -> bool
     ensures { result ≡ bypasses_at address io }
 {
     io || address >= 0x8000_0000
-}
-
-/// What a word does; one outside the instruction table raises.
-#[tactic(auto, unfolding(n2_exec::specs::Effect::effect_of_word))]
-fn table_effect(regs: &Regs, word: u32) -> Outcome
-    ensures outcome { result ≡ effect_of_word regs.now word }
-    ensures proper { IsProper result }
-{
-    match decode(word) {
-        Some(insn) => effect(regs, &insn),
-        None => Outcome::Raise(Cause::Illegal),
-    }
 }
 
 impl PlainEnd {
@@ -82,17 +69,7 @@ impl PlainEnd {
         ensures { IfOk result (λ end. end ≡ started image.now) }
     {
         Ok(PlainEnd {
-            regs: Regs {
-                pc: image.entry,
-                gpr: [0; 32],
-                status: 0,
-                estatus: 0,
-                bstatus: 0,
-                ienable: 0,
-                latch: 0,
-                cpuid: 0,
-                vector: EXCEPTION,
-            },
+            regs: Regs::at_reset(image.entry, 0, EXCEPTION),
             stop: None,
             sent: Items::new(alloc),
         })
@@ -105,7 +82,7 @@ impl PlainEnd {
         if self.sent.len() < WRITE_DEPTH as usize {
             self.sent.push((value & 0xff) as u8)?;
         }
-        self.regs = passed(&self.regs);
+        self.regs.advance();
         Ok(())
     }
 
@@ -118,6 +95,7 @@ impl PlainEnd {
         }
     }
 
+    #[inline(always)]
     fn load(
         &mut self,
         place: Place,
@@ -136,13 +114,14 @@ impl PlainEnd {
         match place {
             Place::Memory => {
                 let value = extended(read(memory, address & 0x7fff_ffff, width), width, signed);
-                self.regs = loaded(&self.regs, to, value);
+                self.regs.put_loaded(to, value);
                 Ok(())
             }
             Place::Device { .. } | Place::Nothing => Err(self.unbuilt(word)),
         }
     }
 
+    #[inline(always)]
     fn store(
         &mut self,
         place: Place,
@@ -159,7 +138,7 @@ impl PlainEnd {
         match place {
             Place::Memory => {
                 write(memory, address & 0x7fff_ffff, width, value);
-                self.regs = passed(&self.regs);
+                self.regs.advance();
                 Ok(())
             }
             Place::Device { offset: 0, .. } => match self.send(value) {
@@ -170,24 +149,22 @@ impl PlainEnd {
         }
     }
 
-    /// What an instruction comes to.
+    /// What an instruction leaves to do.
+    #[inline(always)]
     fn perform(
         &mut self,
         layout: &Layout,
         memory: &mut [u32],
         word: u32,
-        outcome: &Outcome,
+        asked: Asked,
     ) -> Result<(), PlainFault>
         requires places { HasMemory layout.now (length memory.old) }
-        requires proper { IsProper outcome.now }
-        ensures { MatchResult result (λ _. performed layout.now (flat memory.old self.old) word outcome.now ≡ Ok (flat memory.new self.new)) (λ fault. AnswersTo (performed layout.now (flat memory.old self.old) word outcome.now) fault) }
+        requires proper { IsProper asked }
+        ensures { MatchResult result (λ _. performed layout.now (flat memory.old self.old) word asked ≡ Ok (flat memory.new self.new)) (λ fault. AnswersTo (performed layout.now (flat memory.old self.old) word asked) fault) }
     {
-        match *outcome {
-            Outcome::Next(regs) => {
-                self.regs = regs;
-                Ok(())
-            }
-            Outcome::Load {
+        match asked {
+            Asked::Done => Ok(()),
+            Asked::Load {
                 address,
                 width,
                 signed,
@@ -203,7 +180,7 @@ impl PlainEnd {
                     self.load(place, memory, word, address, width, signed, to)
                 }
             },
-            Outcome::Store {
+            Asked::Store {
                 address,
                 width,
                 value,
@@ -218,15 +195,15 @@ impl PlainEnd {
                     self.store(place, memory, word, address, width, value)
                 }
             },
-            Outcome::LineOp { .. } | Outcome::CodeOp { .. } => {
-                self.regs = passed(&self.regs);
+            Asked::LineOp { .. } | Asked::CodeOp { .. } => {
+                self.regs.advance();
                 Ok(())
             }
-            Outcome::Raise(_) => {
-                self.regs = raise(&self.regs);
+            Asked::Raise(_) => {
+                self.regs.take_exception();
                 Ok(())
             }
-            Outcome::Broke => {
+            Asked::Broke => {
                 self.stop = Some(Stop::Broke);
                 Ok(())
             }
@@ -234,12 +211,13 @@ impl PlainEnd {
     }
 
     /// One act of a core that runs.
+    #[inline(always)]
     fn go(&mut self, layout: &Layout, memory: &mut [u32]) -> Result<(), PlainFault>
         requires { HasMemory layout.now (length memory.old) }
         ensures { MatchResult result (λ _. running layout.now (flat memory.old self.old) ≡ Ok (flat memory.new self.new)) (λ fault. AnswersTo (running layout.now (flat memory.old self.old)) fault) }
     {
         if waiting(&self.regs) {
-            self.regs = interrupt(&self.regs);
+            self.regs.take_interrupt();
             return Ok(());
         }
         let pc = self.regs.pc;
@@ -248,8 +226,8 @@ impl PlainEnd {
             return Ok(());
         }
         let word = memory[(pc / 4) as usize];
-        let outcome = table_effect(&self.regs, word);
-        self.perform(layout, memory, word, &outcome)
+        let asked = act_word(&mut self.regs, word);
+        self.perform(layout, memory, word, asked)
     }
 
     /// So many acts; a core that stopped makes no more.

@@ -1,6 +1,5 @@
 -- The word of each instruction stands for it.
 use Rattle.std.proofs.Common.{◌≡◌, ◌==◌, ◌&&◌, ◌^◌, ◌<◌, ℕ, Bool, true, false, Option, Some, find, nat_lt, IsTrue, refl, ap, ◌∙◌, arith}
-use Rattle.std.proofs.lemmas.Bool.Decides.{nat_tests}
 use Rattle.n2_word.specs.declared.Width.TheVariants.{Byte, Half, Word}
 use Rattle.n2_insn.specs.declared.Insn.{Insn}
 use Rattle.n2_insn.specs.declared.Insn.TheVariants.{Jump, Imm, Br, Branch, Load, Store, Data, Code, Reg, Shift, Jmp, Callr, Ret, Eret, Nextpc, Rdctl, Wrctl, Trap, Break, Flushp, Sync}
@@ -14,6 +13,7 @@ use Rattle.n2_insn.specs.declared.RegOp.TheVariants.{Add, Sub, Mul, Mulxuu, Mulx
 use Rattle.n2_insn.specs.declared.ShiftOp.TheVariants.{Slli, Srli, Srai, Roli}
 use Rattle.n2_insn.specs.Fields.{Form, IType, RType, JType, op_of, opx_of, a_of, b_of, c_of, imm5_of, imm16_of, imm26_of, composed}
 use Rattle.n2_insn.specs.Table.{row, word_of, instructions, table_insn, is_valid, has_half}
+use Rattle.n2_insn.proofs.Bounds.{below, first, second}
 use Rattle.n2_insn.proofs.Forms.{HasIType, HasRType, i_type_fields, r_type_fields}
 
 -- whether a form has these numbers
@@ -59,32 +59,21 @@ j_row n make target hn found =
     let target_is : imm26_of word ≡ target = omega arith in
     by_numbers word n (opx_of word) (make target) op_is refl (found word (opx_of word) ∙ ap (λ x. Some (make x)) target_is)
 
-lt : (m n : ℕ) → IsTrue (nat_lt m n) → m < n
-lt m n h = grind (arith, nat_tests)
-
-first : (x y : Bool) → IsTrue (x && y) → IsTrue x
-first true y h = refl
-first false y h = h
-
-second : (x y : Bool) → IsTrue (x && y) → IsTrue y
-second true y h = h
-second false y h = cc
-
 -- the rows of two registers and an immediate
 abbrev i_two : (n : ℕ) (make : ℕ → ℕ → ℕ → Insn) (a b imm : ℕ) → n < 64 → IsTrue (nat_lt a 32 && nat_lt b 32) → IsTrue (nat_lt imm (2 ^ 16)) → ((word opx : ℕ) → numbered_insn n opx word ≡ Some (make (a_of word) (b_of word) (imm16_of word))) → table_insn (composed (IType a b imm n)) ≡ Some (make a b imm)
-i_two n make a b imm hn v h = i_row n make a b imm hn (lt a 32 (first _ _ v)) (lt b 32 (second (nat_lt a 32) _ v)) (lt imm (2 ^ 16) h)
+i_two n make a b imm hn v h = i_row n make a b imm hn (below a 32 (first _ _ v)) (below b 32 (second (nat_lt a 32) _ v)) (below imm (2 ^ 16) h)
 
 -- the rows of three registers
 abbrev r_three : (n : ℕ) (make : ℕ → ℕ → ℕ → Insn) (a b c : ℕ) → n < 64 → IsTrue (nat_lt a 32 && nat_lt b 32 && nat_lt c 32) → ((word : ℕ) → numbered_insn 0x3a n word ≡ Some (make (a_of word) (b_of word) (c_of word))) → table_insn (composed (RType a b c n 0)) ≡ Some (make a b c)
 r_three n make a b c hn v =
     let ab : IsTrue (nat_lt a 32 && nat_lt b 32) = first _ _ v in
-    r_row n (λ a b c by. make a b c) a b c 0 hn (lt a 32 (first _ _ ab)) (lt b 32 (second (nat_lt a 32) _ ab)) (lt c 32 (second (nat_lt a 32 && nat_lt b 32) _ v)) (omega arith)
+    r_row n (λ a b c by. make a b c) a b c 0 hn (below a 32 (first _ _ ab)) (below b 32 (second (nat_lt a 32) _ ab)) (below c 32 (second (nat_lt a 32 && nat_lt b 32) _ v)) (omega arith)
 
 -- the rows of two registers and a shift amount
 abbrev r_shift : (n : ℕ) (make : ℕ → ℕ → ℕ → Insn) (a c by : ℕ) → n < 64 → IsTrue (nat_lt a 32 && nat_lt c 32 && nat_lt by 32) → ((word : ℕ) → numbered_insn 0x3a n word ≡ Some (make (a_of word) (c_of word) (imm5_of word))) → table_insn (composed (RType a 0 c n by)) ≡ Some (make a c by)
 r_shift n make a c by hn v =
     let ac : IsTrue (nat_lt a 32 && nat_lt c 32) = first _ _ v in
-    r_row n (λ a b c by. make a c by) a 0 c by hn (lt a 32 (first _ _ ac)) (omega arith) (lt c 32 (second (nat_lt a 32) _ ac)) (lt by 32 (second (nat_lt a 32 && nat_lt c 32) _ v))
+    r_row n (λ a b c by. make a c by) a 0 c by hn (below a 32 (first _ _ ac)) (omega arith) (below c 32 (second (nat_lt a 32) _ ac)) (below by 32 (second (nat_lt a 32 && nat_lt c 32) _ v))
 
 -- the word of each valid instruction stands for it
 pub again : (insn : Insn) → IsTrue (is_valid insn) → IsTrue (has_half insn) → table_insn (word_of insn) ≡ Some insn
@@ -105,7 +94,7 @@ again (Imm Cmpnei a b imm) v h = i_two 0x18 (Imm Cmpnei) a b imm (omega arith) v
 again (Imm Cmpeqi a b imm) v h = i_two 0x20 (Imm Cmpeqi) a b imm (omega arith) v h (λ word opx. refl)
 again (Imm Cmpgeui a b imm) v h = i_two 0x28 (Imm Cmpgeui) a b imm (omega arith) v h (λ word opx. refl)
 again (Imm Cmpltui a b imm) v h = i_two 0x30 (Imm Cmpltui) a b imm (omega arith) v h (λ word opx. refl)
-again (Br imm) v h = i_row 0x06 (λ a b imm. Br imm) 0 0 imm (omega arith) (omega arith) (omega arith) (lt imm (2 ^ 16) h) (λ word opx. refl)
+again (Br imm) v h = i_row 0x06 (λ a b imm. Br imm) 0 0 imm (omega arith) (omega arith) (omega arith) (below imm (2 ^ 16) h) (λ word opx. refl)
 again (Branch Bge a b imm) v h = i_two 0x0e (Branch Bge) a b imm (omega arith) v h (λ word opx. refl)
 again (Branch Blt a b imm) v h = i_two 0x16 (Branch Blt) a b imm (omega arith) v h (λ word opx. refl)
 again (Branch Bne a b imm) v h = i_two 0x1e (Branch Bne) a b imm (omega arith) v h (λ word opx. refl)
@@ -128,10 +117,10 @@ again (Store Half false a b imm) v h = i_two 0x0d (Store Half false) a b imm (om
 again (Store Half true a b imm) v h = i_two 0x2d (Store Half true) a b imm (omega arith) v h (λ word opx. refl)
 again (Store Word false a b imm) v h = i_two 0x15 (Store Word false) a b imm (omega arith) v h (λ word opx. refl)
 again (Store Word true a b imm) v h = i_two 0x35 (Store Word true) a b imm (omega arith) v h (λ word opx. refl)
-again (Data Initda a imm) v h = i_row 0x13 (λ a b imm. Data Initda a imm) a 0 imm (omega arith) (lt a 32 v) (omega arith) (lt imm (2 ^ 16) h) (λ word opx. refl)
-again (Data Initd a imm) v h = i_row 0x33 (λ a b imm. Data Initd a imm) a 0 imm (omega arith) (lt a 32 v) (omega arith) (lt imm (2 ^ 16) h) (λ word opx. refl)
-again (Data Flushda a imm) v h = i_row 0x1b (λ a b imm. Data Flushda a imm) a 0 imm (omega arith) (lt a 32 v) (omega arith) (lt imm (2 ^ 16) h) (λ word opx. refl)
-again (Data Flushd a imm) v h = i_row 0x3b (λ a b imm. Data Flushd a imm) a 0 imm (omega arith) (lt a 32 v) (omega arith) (lt imm (2 ^ 16) h) (λ word opx. refl)
+again (Data Initda a imm) v h = i_row 0x13 (λ a b imm. Data Initda a imm) a 0 imm (omega arith) (below a 32 v) (omega arith) (below imm (2 ^ 16) h) (λ word opx. refl)
+again (Data Initd a imm) v h = i_row 0x33 (λ a b imm. Data Initd a imm) a 0 imm (omega arith) (below a 32 v) (omega arith) (below imm (2 ^ 16) h) (λ word opx. refl)
+again (Data Flushda a imm) v h = i_row 0x1b (λ a b imm. Data Flushda a imm) a 0 imm (omega arith) (below a 32 v) (omega arith) (below imm (2 ^ 16) h) (λ word opx. refl)
+again (Data Flushd a imm) v h = i_row 0x3b (λ a b imm. Data Flushd a imm) a 0 imm (omega arith) (below a 32 v) (omega arith) (below imm (2 ^ 16) h) (λ word opx. refl)
 again (Reg Add a b c) v h = r_three 0x31 (Reg Add) a b c (omega arith) v (λ word. refl)
 again (Reg Sub a b c) v h = r_three 0x39 (Reg Sub) a b c (omega arith) v (λ word. refl)
 again (Reg Mul a b c) v h = r_three 0x27 (Reg Mul) a b c (omega arith) v (λ word. refl)
@@ -159,16 +148,16 @@ again (Shift Slli a c by) v h = r_shift 0x12 (Shift Slli) a c by (omega arith) v
 again (Shift Srli a c by) v h = r_shift 0x1a (Shift Srli) a c by (omega arith) v (λ word. refl)
 again (Shift Srai a c by) v h = r_shift 0x3a (Shift Srai) a c by (omega arith) v (λ word. refl)
 again (Shift Roli a c by) v h = r_shift 0x02 (Shift Roli) a c by (omega arith) v (λ word. refl)
-again (Jmp a) v h = r_row 0x0d (λ a b c by. Jmp a) a 0 0 0 (omega arith) (lt a 32 v) (omega arith) (omega arith) (omega arith) (λ word. refl)
-again (Callr a) v h = r_row 0x1d (λ a b c by. Callr a) a 0 31 0 (omega arith) (lt a 32 v) (omega arith) (omega arith) (omega arith) (λ word. refl)
+again (Jmp a) v h = r_row 0x0d (λ a b c by. Jmp a) a 0 0 0 (omega arith) (below a 32 v) (omega arith) (omega arith) (omega arith) (λ word. refl)
+again (Callr a) v h = r_row 0x1d (λ a b c by. Callr a) a 0 31 0 (omega arith) (below a 32 v) (omega arith) (omega arith) (omega arith) (λ word. refl)
 again Ret v h = r_row 0x05 (λ a b c by. Ret) 31 0 0 0 (omega arith) (omega arith) (omega arith) (omega arith) (omega arith) (λ word. refl)
 again Eret v h = r_row 0x01 (λ a b c by. Eret) 29 30 0 0 (omega arith) (omega arith) (omega arith) (omega arith) (omega arith) (λ word. refl)
-again (Nextpc c) v h = r_row 0x1c (λ a b c by. Nextpc c) 0 0 c 0 (omega arith) (omega arith) (omega arith) (lt c 32 v) (omega arith) (λ word. refl)
-again (Rdctl c n) v h = r_row 0x26 (λ a b c by. Rdctl c by) 0 0 c n (omega arith) (omega arith) (omega arith) (lt c 32 (first _ _ v)) (lt n 32 (second (nat_lt c 32) _ v)) (λ word. refl)
-again (Wrctl n a) v h = r_row 0x2e (λ a b c by. Wrctl by a) a 0 0 n (omega arith) (lt a 32 (second (nat_lt n 32) _ v)) (omega arith) (omega arith) (lt n 32 (first _ _ v)) (λ word. refl)
-again (Code Flushi a) v h = r_row 0x0c (λ a b c by. Code Flushi a) a 0 0 0 (omega arith) (lt a 32 v) (omega arith) (omega arith) (omega arith) (λ word. refl)
-again (Code Initi a) v h = r_row 0x29 (λ a b c by. Code Initi a) a 0 0 0 (omega arith) (lt a 32 v) (omega arith) (omega arith) (omega arith) (λ word. refl)
-again (Trap imm) v h = r_row 0x2d (λ a b c by. Trap by) 0 0 29 imm (omega arith) (omega arith) (omega arith) (omega arith) (lt imm 32 v) (λ word. refl)
-again (Break imm) v h = r_row 0x34 (λ a b c by. Break by) 0 0 30 imm (omega arith) (omega arith) (omega arith) (omega arith) (lt imm 32 v) (λ word. refl)
+again (Nextpc c) v h = r_row 0x1c (λ a b c by. Nextpc c) 0 0 c 0 (omega arith) (omega arith) (omega arith) (below c 32 v) (omega arith) (λ word. refl)
+again (Rdctl c n) v h = r_row 0x26 (λ a b c by. Rdctl c by) 0 0 c n (omega arith) (omega arith) (omega arith) (below c 32 (first _ _ v)) (below n 32 (second (nat_lt c 32) _ v)) (λ word. refl)
+again (Wrctl n a) v h = r_row 0x2e (λ a b c by. Wrctl by a) a 0 0 n (omega arith) (below a 32 (second (nat_lt n 32) _ v)) (omega arith) (omega arith) (below n 32 (first _ _ v)) (λ word. refl)
+again (Code Flushi a) v h = r_row 0x0c (λ a b c by. Code Flushi a) a 0 0 0 (omega arith) (below a 32 v) (omega arith) (omega arith) (omega arith) (λ word. refl)
+again (Code Initi a) v h = r_row 0x29 (λ a b c by. Code Initi a) a 0 0 0 (omega arith) (below a 32 v) (omega arith) (omega arith) (omega arith) (λ word. refl)
+again (Trap imm) v h = r_row 0x2d (λ a b c by. Trap by) 0 0 29 imm (omega arith) (omega arith) (omega arith) (omega arith) (below imm 32 v) (λ word. refl)
+again (Break imm) v h = r_row 0x34 (λ a b c by. Break by) 0 0 30 imm (omega arith) (omega arith) (omega arith) (omega arith) (below imm 32 v) (λ word. refl)
 again Flushp v h = r_row 0x04 (λ a b c by. Flushp) 0 0 0 0 (omega arith) (omega arith) (omega arith) (omega arith) (omega arith) (λ word. refl)
 again Sync v h = r_row 0x36 (λ a b c by. Sync) 0 0 0 0 (omega arith) (omega arith) (omega arith) (omega arith) (omega arith) (λ word. refl)

@@ -1,4 +1,4 @@
-use Rattle.n2_exec.proofs.Bits.{bits, passed-bits, loaded-bits, raised-bits}
+use Rattle.n2_exec.proofs.Bits.{bits, passed-bits, loaded-bits, raised-bits, latched-bits, reset-bits}
 use Rattle.n2_exec.proofs.laws.every_status.Goals as goal
 
 pub returns-clause-effect : goal.returns-clause-effect
@@ -12,3 +12,9 @@ returns-clause-loaded c = loaded-bits
 
 pub returns-clause-raised : goal.returns-clause-raised
 returns-clause-raised c = raised-bits
+
+pub returns-clause-latched : goal.returns-clause-latched
+returns-clause-latched c = latched-bits
+
+pub returns-clause-reset : goal.returns-clause-reset
+returns-clause-reset c = reset-bits

@@ -1,14 +1,16 @@
 -- The segments of a file without a fault have room for their bytes.
-use Rattle.std.proofs.Common.{◌≡◌, ℕ, zero, suc, ◌+◌, ◌≤◌, Bool, true, false, cond, leb, eqb, List, [], ◌∷◌, ◌++◌, length, take, drop, min, Option, Some, None, refl, sym, ap, ◌∙◌, arith}
+use Rattle.std.proofs.Common.{◌≡◌, ℕ, zero, suc, ◌+◌, ◌≤◌, Bool, true, false, cond, List, [], ◌∷◌, ◌++◌, length, take, drop, min, Option, Some, None, refl, arith}
 use Rattle.std.specs.List.{AllByRecursion}
-use Rattle.std.proofs.lemmas.Bool.{leb-true, false≢true}
+use Rattle.std.specs.Option.{option_or}
+use Rattle.std.proofs.lemmas.Bool.{leb-true}
 use Rattle.std.proofs.lemmas.List.{length-take}
+use Rattle.n2_text.specs.Firsts.{unless}
 use Rattle.n2_elf.specs.declared.image.Segment.{Segment}
 use Rattle.n2_elf.specs.declared.image.ElfFault.{ElfFault}
 use Rattle.n2_elf.specs.declared.image.ElfFault.TheVariants.{Cut, Sizes}
-use Rattle.n2_elf.specs.Reading.{HoldsItsBytes, first_of, or_else, unless, place_of, filesz_at, memsz_at, offset_at, is_loaded, segment_fault, program_fault, programs_fault, segment_at, loaded_at, segments_from}
+use Rattle.n2_elf.specs.Reading.{HoldsItsBytes, place_of, filesz_at, memsz_at, offset_at, is_loaded, segment_fault, program_fault, programs_fault, segment_at, loaded_at, segments_from}
 
-both : (f g : Option ElfFault) → or_else f g ≡ None → (f ≡ None) × (g ≡ None)
+both : (f g : Option ElfFault) → option_or f g ≡ None → (f ≡ None) × (g ≡ None)
 both None g h = (refl, h)
 both (Some fault) g h = absurd cc
 
@@ -16,9 +18,9 @@ appended : (a b : List Segment) → AllByRecursion HoldsItsBytes a → AllByRecu
 appended [] b h g = g
 appended (s ∷ a) b h g = (h.0, appended a b h.1 g)
 
-fits : (small : Bool) (fault : ElfFault) (faults : List (Option ElfFault)) → first_of (unless small fault ∷ faults) ≡ None → small ≡ true
-fits true fault faults h = refl
-fits false fault faults h = absurd cc
+fits : (small : Bool) (fault : ElfFault) (other : Option ElfFault) → option_or (unless small fault) other ≡ None → small ≡ true
+fits true fault other h = refl
+fits false fault other h = absurd cc
 
 room : (bytes : List ℕ) (i place : ℕ) → segment_fault bytes i place ≡ None → HoldsItsBytes (segment_at bytes place)
 unfolding segment_at

@@ -1,11 +1,12 @@
 -- One step of each loop.
 use Rattle.std.proofs.Common.{◌≡◌, ℕ, suc, ◌+◌, ◌-◌, ◌<◌, ◌≤◌, List, [], ◌∷◌, ◌++◌, length, get_or, drop, None, refl, sym, ap, ◌∙◌, append_assoc, drop-cons, arith}
 use Rattle.std.proofs.lemmas.List.{append-nil, drop_all}
+use Rattle.std.specs.Option.{option_or}
 use Rattle.n2_elf.specs.declared.image.Segment.{Segment}
-use Rattle.n2_elf.specs.Reading.{place_of, program_fault, programs_fault, or_else, loaded_at, segments_from}
+use Rattle.n2_elf.specs.Reading.{place_of, program_fault, programs_fault, loaded_at, segments_from}
 use Rattle.n2_elf.specs.Writing.{program_bytes, programs_bytes, contents, contents_len}
 
-pub programs_fault-next : (bytes : List ℕ) (i count : ℕ) → i < count → programs_fault bytes i (count - i) ≡ or_else (program_fault bytes i (place_of bytes i)) (programs_fault bytes (i + 1) (count - (i + 1)))
+pub programs_fault-next : (bytes : List ℕ) (i count : ℕ) → i < count → programs_fault bytes i (count - i) ≡ option_or (program_fault bytes i (place_of bytes i)) (programs_fault bytes (i + 1) (count - (i + 1)))
 unfolding programs_fault
 programs_fault-next bytes i count lt =
     let k : count - i ≡ suc (count - (i + 1)) = omega arith in rw k refl

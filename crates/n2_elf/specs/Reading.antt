@@ -1,6 +1,8 @@
 -- What a file is as an executable (ELF32 specification, "ELF Header" and "Program Header").
 use Rattle.std.specs.Prelude.{ℕ, zero, suc, ◌+◌, ◌*◌, ◌/◌, ◌%◌, ◌≤◌, List, [], ◌∷◌, ◌++◌, length, take, drop, Bool, true, false, not, ◌&&◌, ◌==◌, nat_lt, nat_le, if◌then◌else◌, Option, Some, None, Result, Ok, Err}
 use Rattle.std.specs.List.{AllByRecursion}
+use Rattle.std.specs.Option.{option_or}
+use Rattle.n2_text.specs.Firsts.{first_of, unless}
 use Rattle.n2_elf.specs.Fields.{byte_at, half_at, word_at}
 use Rattle.n2_elf.specs.declared.image.Segment.{Segment}
 use Rattle.n2_elf.specs.declared.image.Image.{Image}
@@ -13,17 +15,6 @@ magic = 127 ∷ 69 ∷ 76 ∷ 70 ∷ []
 
 abbrev pub has_magic : List ℕ → Bool
 has_magic bytes = byte_at bytes 0 == 127 && byte_at bytes 1 == 69 && byte_at bytes 2 == 76 && byte_at bytes 3 == 70
-
--- the first fault of some, in order
-abbrev pub first_of : List (Option ElfFault) → Option ElfFault
-first_of [] = None
-first_of (None ∷ faults) = first_of faults
-first_of (Some fault ∷ faults) = Some fault
-
--- a fault, unless a condition holds
-abbrev pub unless : Bool → ElfFault → Option ElfFault
-unless true fault = None
-unless false fault = Some fault
 
 -- e_entry, e_phoff, e_phentsize and e_phnum
 abbrev pub entry_of : List ℕ → ℕ
@@ -91,15 +82,10 @@ program_fault bytes i place =
     if nat_lt (length bytes) (place + 32) then Some (Cut place)
     else (if is_loaded bytes place then segment_fault bytes i place else None)
 
--- a fault, or else another
-abbrev pub or_else : Option ElfFault → Option ElfFault → Option ElfFault
-or_else None other = other
-or_else (Some fault) other = Some fault
-
 -- the first fault of n program headers from header i on
 unfoldable pub programs_fault : List ℕ → ℕ → ℕ → Option ElfFault
 programs_fault bytes i zero = None
-programs_fault bytes i (suc n) = or_else (program_fault bytes i (place_of bytes i)) (programs_fault bytes (i + 1) n)
+programs_fault bytes i (suc n) = option_or (program_fault bytes i (place_of bytes i)) (programs_fault bytes (i + 1) n)
 
 -- the segment of the program header at a place: its bytes of the file, at its physical address,
 -- with PF_X (bit 0) and PF_W (bit 1)

@@ -2,7 +2,8 @@
 -- without gaps (ELF32 specification, "ELF Header" and "Program Header").
 use Rattle.std.specs.Prelude.{ℕ, ◌+◌, ◌*◌, ◌^◌, ◌<◌, ◌≤◌, List, [], ◌∷◌, ◌++◌, length, if◌then◌else◌}
 use Rattle.std.specs.List.{AllByRecursion}
-use Rattle.n2_elf.specs.Fields.{half_bytes, word_bytes}
+use Rattle.n2_word.specs.Words.{bytes_of}
+use Rattle.n2_elf.specs.Fields.{half_bytes}
 use Rattle.n2_elf.specs.Reading.{magic}
 use Rattle.n2_elf.specs.declared.image.Segment.{Segment}
 use Rattle.n2_elf.specs.declared.image.Image.{Image}
@@ -16,7 +17,7 @@ ident = magic ++ (1 ∷ 1 ∷ 1 ∷ 0 ∷ 0 ∷ 0 ∷ 0 ∷ 0 ∷ 0 ∷ 0 ∷ 0 
 -- e_shentsize, e_shnum and e_shstrndx
 unfoldable pub header_bytes : ℕ → ℕ → List ℕ
 header_bytes entry count =
-    ident ++ half_bytes 2 ++ half_bytes 113 ++ word_bytes 1 ++ word_bytes entry ++ word_bytes 52 ++ word_bytes 0 ++ word_bytes 0
+    ident ++ half_bytes 2 ++ half_bytes 113 ++ bytes_of 1 ++ bytes_of entry ++ bytes_of 52 ++ bytes_of 0 ++ bytes_of 0
     ++ half_bytes 52 ++ half_bytes 32 ++ half_bytes count ++ half_bytes 0 ++ half_bytes 0 ++ half_bytes 0
 
 -- PF_R, and PF_X and PF_W where they are given
@@ -27,7 +28,7 @@ flags_of s = 4 + (if s.exec then 1 else 0) + (if s.write then 2 else 0)
 -- p_paddr, p_filesz, p_memsz, p_flags and p_align
 unfoldable pub program_bytes : ℕ → Segment → List ℕ
 program_bytes offset s =
-    word_bytes 1 ++ word_bytes offset ++ word_bytes s.at ++ word_bytes s.at ++ word_bytes (length s.bytes) ++ word_bytes s.size ++ word_bytes (flags_of s) ++ word_bytes 1
+    bytes_of 1 ++ bytes_of offset ++ bytes_of s.at ++ bytes_of s.at ++ bytes_of (length s.bytes) ++ bytes_of s.size ++ bytes_of (flags_of s) ++ bytes_of 1
 
 -- the program headers of segments whose bytes stand from an offset on
 unfoldable pub programs_bytes : ℕ → List Segment → List ℕ
@@ -60,12 +61,3 @@ pub record IsWritable (image : Image) : Type 0 where
   pub few : length image.segments ≤ 64
   pub room : AllByRecursion HasRoom image.segments
   pub small : contents_len image.segments < 2 ^ 31
-
--- an image whose numbers are words, as in each that a program holds
-pub record HasWords (s : Segment) : Type 0 where
-  pub at : s.at < 2 ^ 32
-  pub size : s.size < 2 ^ 32
-
-pub record IsOfWords (image : Image) : Type 0 where
-  pub entry : image.entry < 2 ^ 32
-  pub segments : AllByRecursion HasWords image.segments

@@ -99,12 +99,8 @@ impl Image {
         ensures sized { IfOk result (λ image. IsSized image) }
         ensures fault { IfErr result (λ fault. fault ≢ ElfFault.NoMemory → elf bytes.now ≡ Err fault) }
     {
-        if let Some(fault) = check_header(bytes) {
-            return Err(fault);
-        }
-        if let Some(fault) = check_programs(bytes) {
-            return Err(fault);
-        }
+        check_header(bytes)?;
+        check_programs(bytes)?;
         let segments = load(alloc, bytes)?;
         if segments.len() == 0 {
             return Err(ElfFault::NoSegment);
@@ -116,11 +112,12 @@ impl Image {
     }
 
     /// The file of an image: the header, the program headers, and the bytes of the segments without
-    /// gaps. There are no sections.
+    /// gaps. There are no sections. The file is read as the same image.
     #[tactic(auto, unfolding(crate::specs::Writing::file_of))]
     pub fn write(&self, alloc: Global) -> Result<Vec<u8>, ElfFault>
         requires { IsWritable self.now }
         ensures ok { IfOk result (λ file. file.items ≡ file_of self.now) }
+        ensures reads_back { IfOk result (λ file. elf file.items ≡ Ok self.now) }
         ensures fault { IfErr result (λ fault. fault ≡ ElfFault.NoMemory) }
     {
         let segments = self.segments.as_slice();

@@ -3,7 +3,6 @@
 #![tactic(auto)]
 
 mod image;
-pub mod laws;
 mod naming;
 mod reading;
 mod writing;

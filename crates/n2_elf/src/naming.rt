@@ -1,25 +1,18 @@
 //! Faults as text.
 
-ghost use Rattle.std.specs.Prelude.{◌≡◌, ◌++◌, OnOk, decimal};
+ghost use Rattle.std.specs.Prelude.{◌≡◌, ◌++◌, OnOk, OnErr};
 ghost use Rattle.n2_elf.specs.Names.{fault_text};
 
 use crate::image::ElfFault;
-use n2_text::{put_number, put_text};
+use n2_text::{put_numbered, put_text};
 use n2_word::NoMemory;
 
-/// Appends a word, a blank and a number.
-fn put_numbered(out: &mut Vec<u8>, name: &[u8], n: u64) -> Result<(), NoMemory>
-    ensures { OnOk result (out.new.items ≡ out.old.items ++ (name.now ++ decimal n)) }
-{
-    put_text(out, name)?;
-    put_number(out, n)
-}
-
 /// Appends a fault in lower-case letters, with its number in decimal where it has one, as
-/// `wrongmachine 243`, `cut 52` or `nosegment`.
+/// `wrongmachine 243`, `cut 52` or `nosegment`. After want of memory `out` is as it was.
 #[tactic(auto, unfolding(crate::specs::Names::fault_text))]
 pub fn put_fault(out: &mut Vec<u8>, fault: &ElfFault) -> Result<(), NoMemory>
-    ensures { OnOk result (out.new.items ≡ out.old.items ++ fault_text fault.now) }
+    ensures ok { OnOk result (out.new.items ≡ out.old.items ++ fault_text fault.now) }
+    ensures err { OnErr result (out.new.items ≡ out.old.items) }
 {
     match fault {
         ElfFault::NotElf => put_text(out, b"notelf"),

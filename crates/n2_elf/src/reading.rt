@@ -1,14 +1,27 @@
 //! The fields of a file, its first fault, and its segments.
 
-ghost use Rattle.std.specs.Prelude.{◌≡◌, ◌+◌, ◌<◌, ◌^◌, ◌++◌, IfOk, OnOk, length, take, drop};
+ghost use Rattle.std.specs.Prelude.{◌≡◌, ◌<◌, ◌^◌, ◌++◌, IfOk, OnOk, take, drop};
+ghost use Rattle.std.specs.Result.{result_err};
+ghost use Rattle.n2_text.specs.Firsts as firsts;
 ghost use Rattle.n2_elf.specs.Fields as fields;
 ghost use Rattle.n2_elf.specs.Reading.{header_fault, programs_fault, count_of, loaded_at, segments_of};
 ghost use Rattle.n2_elf.specs.Reading as spec;
 
 use crate::image::{ElfFault, Image, Segment};
 use n2_text::Items;
-use n2_word::NoMemory;
+use n2_word::{NoMemory, number_of};
 use std::alloc::Global;
+
+/// The bytes from an offset on.
+fn behind(bytes: &[u8], offset: usize) -> &[u8]
+    ensures { result.now ≡ drop offset bytes.now }
+{
+    if offset < bytes.len() {
+        &bytes[offset..]
+    } else {
+        &bytes[bytes.len()..]
+    }
+}
 
 /// The byte at an offset, or 0 past the end.
 fn byte_at(bytes: &[u8], offset: usize) -> u8
@@ -21,52 +34,51 @@ fn byte_at(bytes: &[u8], offset: usize) -> u8
     }
 }
 
+/// The number that two bytes at an offset are, with zeros past the end.
 fn half_at(bytes: &[u8], offset: usize) -> u16
-    requires { offset < 2 ^ 40 }
     ensures { result ≡ fields.half_at bytes.now offset }
 {
-    u16::from(byte_at(bytes, offset)) + 0x100 * u16::from(byte_at(bytes, offset + 1))
+    match behind(bytes, offset) {
+        [low, high, ..] => u16::from_le_bytes([*low, *high]),
+        [low] => u16::from(*low),
+        [] => 0,
+    }
 }
 
 /// The number that four bytes at an offset are, with zeros past the end.
 pub fn word_at(bytes: &[u8], offset: usize) -> u32
-    requires { offset < 2 ^ 36 }
     ensures { result ≡ fields.word_at bytes.now offset }
 {
-    u32::from(half_at(bytes, offset)) + 0x1_0000 * u32::from(half_at(bytes, offset + 2))
+    number_of(behind(bytes, offset))
+}
+
+/// A fault, unless a condition holds.
+fn unless(holds: bool, fault: ElfFault) -> Result<(), ElfFault>
+    ensures { result_err result ≡ firsts.unless holds fault }
+{
+    if holds { Ok(()) } else { Err(fault) }
 }
 
 /// What is wrong in the file's header.
 #[tactic(auto, unfolding(crate::specs::Reading::header_fault))]
-pub fn check_header(bytes: &[u8]) -> Option<ElfFault>
-    ensures { result ≡ header_fault bytes.now }
+pub fn check_header(bytes: &[u8]) -> Result<(), ElfFault>
+    ensures { result_err result ≡ header_fault bytes.now }
 {
-    if !Image::is_elf(bytes) {
-        return Some(ElfFault::NotElf);
-    }
-    if bytes.len() < 52 {
-        return Some(ElfFault::Cut(0));
-    }
-    if byte_at(bytes, 4) != 1 || byte_at(bytes, 5) != 1 {
-        return Some(ElfFault::WrongClass);
-    }
+    unless(Image::is_elf(bytes), ElfFault::NotElf)?;
+    unless(bytes.len() >= 52, ElfFault::Cut(0))?;
+    unless(
+        byte_at(bytes, 4) == 1 && byte_at(bytes, 5) == 1,
+        ElfFault::WrongClass,
+    )?;
     let machine = half_at(bytes, 18);
-    if machine != 113 {
-        return Some(ElfFault::WrongMachine(machine));
-    }
+    unless(machine == 113, ElfFault::WrongMachine(machine))?;
     let kind = half_at(bytes, 16);
-    if kind != 2 {
-        return Some(ElfFault::WrongType(kind));
-    }
+    unless(kind == 2, ElfFault::WrongType(kind))?;
     let flags = word_at(bytes, 36);
-    if flags != 0 {
-        return Some(ElfFault::Flags(flags));
-    }
+    unless(flags == 0, ElfFault::Flags(flags))?;
     let entry_size = half_at(bytes, 42);
-    if half_at(bytes, 44) != 0 && entry_size != 32 {
-        return Some(ElfFault::EntrySize(entry_size));
-    }
-    None
+    let fits = half_at(bytes, 44) == 0 || entry_size == 32;
+    unless(fits, ElfFault::EntrySize(entry_size))
 }
 
 /// Where program header `i` stands.
@@ -77,67 +89,107 @@ fn place_of(bytes: &[u8], i: u16) -> usize
     word_at(bytes, 28) as usize + 32 * usize::from(i)
 }
 
+/// `p_type` of the program header at a place.
+fn type_at(bytes: &[u8], place: usize) -> u32
+    ensures { result ≡ spec.type_at bytes.now place }
+{
+    word_at(bytes, place)
+}
+
+/// `p_offset` of the program header at a place.
+fn offset_at(bytes: &[u8], place: usize) -> u32
+    requires { place < 2 ^ 34 }
+    ensures { result ≡ spec.offset_at bytes.now place }
+{
+    word_at(bytes, place + 4)
+}
+
+/// `p_paddr` of the program header at a place.
+fn paddr_at(bytes: &[u8], place: usize) -> u32
+    requires { place < 2 ^ 34 }
+    ensures { result ≡ spec.paddr_at bytes.now place }
+{
+    word_at(bytes, place + 12)
+}
+
+/// `p_filesz` of the program header at a place.
+fn filesz_at(bytes: &[u8], place: usize) -> u32
+    requires { place < 2 ^ 34 }
+    ensures { result ≡ spec.filesz_at bytes.now place }
+{
+    word_at(bytes, place + 16)
+}
+
+/// `p_memsz` of the program header at a place.
+fn memsz_at(bytes: &[u8], place: usize) -> u32
+    requires { place < 2 ^ 34 }
+    ensures { result ≡ spec.memsz_at bytes.now place }
+{
+    word_at(bytes, place + 20)
+}
+
+/// `p_flags` of the program header at a place.
+fn flags_at(bytes: &[u8], place: usize) -> u32
+    requires { place < 2 ^ 34 }
+    ensures { result ≡ spec.flags_at bytes.now place }
+{
+    word_at(bytes, place + 24)
+}
+
 /// Whether the program header at a place is of a segment that is loaded.
 fn is_loaded(bytes: &[u8], place: usize) -> bool
     requires { place < 2 ^ 34 }
     ensures { result ≡ spec.is_loaded bytes.now place }
 {
-    word_at(bytes, place) == 1 && word_at(bytes, place + 20) != 0
+    type_at(bytes, place) == 1 && memsz_at(bytes, place) != 0
 }
 
-fn segment_fault(bytes: &[u8], i: u16, place: usize) -> Option<ElfFault>
+/// What is wrong in a segment that is loaded.
+fn check_segment(bytes: &[u8], i: u16, place: usize) -> Result<(), ElfFault>
     requires { place < 2 ^ 34 }
-    ensures { result ≡ spec.segment_fault bytes.now i place }
+    ensures { result_err result ≡ spec.segment_fault bytes.now i place }
 {
-    let offset = u64::from(word_at(bytes, place + 4));
-    let filesz = word_at(bytes, place + 16);
-    if filesz > word_at(bytes, place + 20) {
-        return Some(ElfFault::Sizes(i));
-    }
-    if filesz != 0 && offset + u64::from(filesz) > bytes.len() as u64 {
-        return Some(ElfFault::Cut(offset));
-    }
-    None
+    let offset = u64::from(offset_at(bytes, place));
+    let filesz = filesz_at(bytes, place);
+    unless(filesz <= memsz_at(bytes, place), ElfFault::Sizes(i))?;
+    unless(
+        filesz == 0 || offset + u64::from(filesz) <= bytes.len() as u64,
+        ElfFault::Cut(offset),
+    )
 }
 
 /// What is wrong in program header `i`.
 #[tactic(auto, unfolding(crate::specs::Reading::program_fault))]
-fn program_fault(bytes: &[u8], i: u16) -> Option<ElfFault>
-    ensures { result ≡ spec.program_fault bytes.now i (spec.place_of bytes.now i) }
+fn check_program(bytes: &[u8], i: u16) -> Result<(), ElfFault>
+    ensures { result_err result ≡ spec.program_fault bytes.now i (spec.place_of bytes.now i) }
 {
     let place = place_of(bytes, i);
     if bytes.len() < place + 32 {
-        return Some(ElfFault::Cut(place as u64));
+        return Err(ElfFault::Cut(place as u64));
     }
     if is_loaded(bytes, place) {
-        segment_fault(bytes, i, place)
+        check_segment(bytes, i, place)
     } else {
-        None
+        Ok(())
     }
 }
 
 /// What is wrong in the program headers.
-pub fn check_programs(bytes: &[u8]) -> Option<ElfFault>
-    ensures { result ≡ programs_fault bytes.now 0 (count_of bytes.now) }
+pub fn check_programs(bytes: &[u8]) -> Result<(), ElfFault>
+    ensures { result_err result ≡ programs_fault bytes.now 0 (count_of bytes.now) }
 {
     let headers = half_at(bytes, 44);
     for i in 0..headers {
-        match program_fault(bytes, i) {
-            Some(fault) => return Some(fault),
-            None => (),
-        }
+        check_program(bytes, i)?;
     }
-    None
+    Ok(())
 }
 
 /// At most `count` bytes from an offset on.
 fn piece(bytes: &[u8], offset: usize, count: usize) -> &[u8]
     ensures { result.now ≡ take count (drop offset bytes.now) }
 {
-    if offset >= bytes.len() {
-        return &bytes[bytes.len()..];
-    }
-    let rest = &bytes[offset..];
+    let rest = behind(bytes, offset);
     if count < rest.len() {
         &rest[..count]
     } else {
@@ -151,13 +203,13 @@ fn segment_at(alloc: Global, bytes: &[u8], place: usize) -> Result<Segment, NoMe
     requires { place < 2 ^ 34 }
     ensures { IfOk result (λ segment. segment ≡ spec.segment_at bytes.now place) }
 {
-    let offset = word_at(bytes, place + 4) as usize;
-    let filesz = word_at(bytes, place + 16) as usize;
-    let flags = word_at(bytes, place + 24);
+    let offset = offset_at(bytes, place) as usize;
+    let filesz = filesz_at(bytes, place) as usize;
+    let flags = flags_at(bytes, place);
     Ok(Segment {
-        at: word_at(bytes, place + 12),
+        at: paddr_at(bytes, place),
         bytes: Items::from_slice(alloc, piece(bytes, offset, filesz))?,
-        size: word_at(bytes, place + 20),
+        size: memsz_at(bytes, place),
         exec: flags % 2 == 1,
         write: flags / 2 % 2 == 1,
     })

@@ -1,37 +1,20 @@
 //! The parts of a file.
 
 ghost use Rattle.std.specs.Prelude.{◌≡◌, ◌+◌, ◌*◌, ◌<◌, ◌≤◌, ◌^◌, ◌++◌, OnOk, length};
-ghost use Rattle.n2_elf.specs.Fields.{half_bytes, word_bytes};
+ghost use Rattle.std.specs.List.{All};
 ghost use Rattle.n2_elf.specs.Writing.{header_bytes, flags_of, program_bytes, programs_bytes, contents, contents_len};
 
 use crate::image::Segment;
 use n2_text::put_text;
-use n2_word::NoMemory;
-
-fn half(n: u16) -> [u8; 2]
-    ensures { result ≡ half_bytes n }
-{
-    [(n & 0xff) as u8, (n >> 8) as u8]
-}
-
-fn word(n: u32) -> [u8; 4]
-    ensures { result ≡ word_bytes n }
-{
-    [
-        (n & 0xff) as u8,
-        ((n >> 8) & 0xff) as u8,
-        ((n >> 16) & 0xff) as u8,
-        (n >> 24) as u8,
-    ]
-}
+use n2_word::{NoMemory, bytes_of};
 
 /// The header of an executable whose program headers stand behind it.
 #[tactic(auto, unfolding(crate::specs::Writing::header_bytes))]
 fn header(entry: u32, count: u16) -> [u8; 52]
     ensures { result ≡ header_bytes entry count }
 {
-    let e = word(entry);
-    let n = half(count);
+    let e = bytes_of(entry);
+    let n = bytes_of(u32::from(count));
     [
         // e_ident
         0x7f, b'E', b'L', b'F', 1, 1, 1, 0, 0, 0, 0, 0, 0, 0, 0, 0, //
@@ -55,12 +38,13 @@ fn flags(segment: &Segment) -> u8
 #[tactic(auto, unfolding(crate::specs::Writing::program_bytes))]
 fn program(offset: u32, segment: &Segment) -> [u8; 32]
     requires { length segment.now.bytes < 2 ^ 32 }
-    ensures { result ≡ program_bytes offset segment.now }
+    ensures value { result ≡ program_bytes offset segment.now }
+    ensures words { (segment.now.at < 2 ^ 32) × (segment.now.size < 2 ^ 32) }
 {
-    let o = word(offset);
-    let a = word(segment.at);
-    let n = word(segment.bytes.len() as u32);
-    let s = word(segment.size);
+    let o = bytes_of(offset);
+    let a = bytes_of(segment.at);
+    let n = bytes_of(segment.bytes.len() as u32);
+    let s = bytes_of(segment.size);
     [
         // p_type, p_offset, p_vaddr, p_paddr
         1,
@@ -110,7 +94,8 @@ pub fn put_header(out: &mut Vec<u8>, entry: u32, count: u16) -> Result<(), NoMem
 pub fn put_programs(out: &mut Vec<u8>, segments: &[Segment]) -> Result<(), NoMemory>
     requires few { length segments.now ≤ 64 }
     requires small { contents_len segments.now < 2 ^ 31 }
-    ensures { OnOk result (out.new.items ≡ out.old.items ++ programs_bytes (52 + 32 * length segments.now) segments.now) }
+    ensures ok { OnOk result (out.new.items ≡ out.old.items ++ programs_bytes (52 + 32 * length segments.now) segments.now) }
+    ensures words { OnOk result (All (λ s. (s.at < 2 ^ 32) × (s.size < 2 ^ 32)) segments.now) }
 {
     let mut offset = 52 + 32 * segments.len() as u32;
     for segment in segments {

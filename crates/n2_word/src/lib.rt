@@ -1,8 +1,9 @@
 //! Words of 32 bits, the lanes of their bytes, and lines of 32 bytes.
 #![tactic(auto)]
 
-ghost use Rattle.std.specs.Prelude.{◌≡◌, ℕ, ◌+◌, ◌*◌, ◌/◌, ◌%◌, ◌^◌, ◌<◌, ◌≤◌, ◌≢◌, ◌↔◌, IsTrue};
+ghost use Rattle.std.specs.Prelude.{◌≡◌, ◌<◌, IsTrue, take};
 ghost use Rattle.n2_word.specs.Words.{is_aligned, lane_of, extracted, merged, signed_byte, signed_half, size};
+ghost use Rattle.n2_word.specs.Words as words;
 ghost use Rattle.n2_word.specs.Lines.{line, set_for};
 
 pub mod laws;
@@ -103,6 +104,28 @@ pub fn merge(word: u32, lane: u32, width: Width, value: u32) -> u32
     }
 }
 
+/// The four bytes of a word, the lowest first.
+#[inline(always)]
+pub fn bytes_of(word: u32) -> [u8; 4]
+    ensures { result ≡ words.bytes_of word }
+{
+    word.to_le_bytes()
+}
+
+/// The number that bytes stand for, the lowest first. Of more than four bytes the first four count.
+#[inline(always)]
+pub fn number_of(bytes: &[u8]) -> u32
+    ensures { result ≡ words.number_of (take 4 bytes.now) }
+{
+    match bytes {
+        [a, b, c, d, ..] => u32::from_le_bytes([*a, *b, *c, *d]),
+        [a, b, c] => u32::from_le_bytes([*a, *b, *c, 0]),
+        [a, b] => u32::from_le_bytes([*a, *b, 0, 0]),
+        [a] => u32::from(*a),
+        [] => 0,
+    }
+}
+
 #[inline(always)]
 fn extract_byte(word: u32, lane: u32) -> u32
     requires { lane < 4 }
@@ -197,5 +220,7 @@ mod tests {
         assert_eq!(rt; merge(word, 2, Width::Half, 0x9_ccbb), 0xccbb_2211);
         assert_eq!(rt; extract(word, 0, Width::Word), word);
         assert_eq!(rt; merge(word, 0, Width::Word, 0xdead_beef), 0xdead_beef);
+        assert_eq!(rt; bytes_of(word), [0x11, 0x22, 0x33, 0x44]);
+        assert_eq!(rt; number_of(&[0x34, 0x12]), 0x1234);
     }
 }

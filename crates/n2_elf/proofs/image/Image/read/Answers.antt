@@ -1,4 +1,4 @@
-use Rattle.std.proofs.Common.{List, sym, subst, ◌∙◌}
+use Rattle.std.proofs.Common.{List, sym, subst}
 use Rattle.std.specs.List.{AllByRecursion}
 use Rattle.n2_elf.specs.declared.image.Segment.{Segment}
 use Rattle.n2_elf.specs.Reading.{HoldsItsBytes, count_of}
@@ -7,4 +7,4 @@ use Rattle.n2_elf.proofs.image.Image.read.Goals as goal
 
 pub returns-clause-sized : goal.returns-clause-sized
 returns-clause-sized c =
-    subst (λ (segments : List Segment). AllByRecursion HoldsItsBytes segments) (sym c.in_ok-segments.ensures) (segments_hold c.args.bytes.now 0 (count_of c.args.bytes.now) (sym c.check_programs.ensures ∙ c.in_default-check_programs.is))
+    subst (λ (segments : List Segment). AllByRecursion HoldsItsBytes segments) (sym c.in_ok-segments.ensures) (segments_hold c.args.bytes.now 0 (count_of c.args.bytes.now) (sym c.in_ok-check_programs.ensures))

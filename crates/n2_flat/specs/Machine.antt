@@ -1,5 +1,5 @@
 -- The flat machine on the plain board: one memory, one core, and the bytes that its UART took.
-use Rattle.std.specs.Prelude.{◌≡◌, ℕ, ◌<◌, zero, suc, ◌/◌, ◌%◌, ◌^◌, List, [], ◌∷◌, ◌++◌, length, replicate, slice_index, Bool, true, false, ◌==◌, ◌||◌, Option, Some, None, Result, Ok, Err, nat_lt, nat_le, if◌then◌else◌}
+use Rattle.std.specs.Prelude.{◌≡◌, ℕ, ◌<◌, zero, suc, ◌/◌, ◌%◌, ◌^◌, List, [], ◌∷◌, ◌++◌, length, slice_index, Bool, true, false, ◌==◌, Option, Some, None, Result, Ok, Err, nat_lt, if◌then◌else◌}
 use Rattle.n2_word.specs.declared.Width.{Width}
 use Rattle.n2_word.specs.Lines.{line, without_bypass, bypasses}
 use Rattle.n2_exec.specs.declared.registers.Regs.{Regs}

@@ -1,6 +1,10 @@
 pub mod Finding
-pub mod Zones
-pub mod Found
 pub mod Joining
-pub mod Meeting
+pub mod Found
+pub mod Zones
 pub mod Owners
+pub mod Meeting
+pub mod Tables
+pub mod Memories
+pub mod Named
+pub mod Reached

@@ -1,17 +1,19 @@
 -- One step of each loop over segments, regions and places.
-use Rattle.std.proofs.Common.{◌≡◌, ℕ, suc, ◌+◌, ◌-◌, ◌<◌, ◌≤◌, Bool, List, [], ◌∷◌, ◌++◌, length, get_or, drop, map, sym, ap, ◌∙◌, append_assoc, drop-cons, arith}
+use Rattle.std.proofs.Common.{◌≡◌, ℕ, suc, ◌+◌, ◌-◌, ◌<◌, ◌≤◌, List, [], ◌∷◌, ◌++◌, length, get_or, drop, map, sym, ap, ◌∙◌, append_assoc, drop-cons, arith}
 use Rattle.std.proofs.lemmas.List.{append-nil, drop_all}
 use Rattle.n2_elf.specs.declared.image.Segment.{Segment}
 use Rattle.n2_elf.specs.declared.image.Image.{Image}
 use Rattle.n2_parts.specs.declared.board.Board.{Board}
 use Rattle.n2_parts.specs.declared.board.RegionRow.{RegionRow}
 use Rattle.n2_parts.specs.declared.board.PartKind.{PartKind}
-use Rattle.n2_board.specs.declared.ground.Extent.{Extent}
-use Rattle.n2_board.specs.declared.ground.LineZone.{LineZone}
-use Rattle.n2_board.specs.declared.ground.PlaceZone.{PlaceZone}
+use Rattle.n2_board.specs.declared.segments.LoadedSegment.{LoadedSegment}
+use Rattle.n2_board.specs.declared.classes.LineZone.{LineZone}
+use Rattle.n2_board.specs.declared.places.PlaceZone.{PlaceZone}
 use Rattle.n2_parts.specs.Parts.{count_of, part_of}
 use Rattle.n2_parts.specs.Rules.{spans_of}
-use Rattle.n2_board.specs.Ground.{extent_of, extents_from, region_zone, region_zones, segment_zone, segment_zones, zones_at, kind_zones, place_zones}
+use Rattle.n2_board.specs.Segments.{loaded_segment, segments_from}
+use Rattle.n2_board.specs.Classes.{region_zone, region_zones}
+use Rattle.n2_board.specs.Places.{zones_at, kind_zones, place_zones}
 
 -- what was put so far, and what is left
 more : {A : Type 0} (out new piece rest all whole : List A) → new ≡ out ++ piece → whole ≡ piece ++ rest → out ++ whole ≡ all → new ++ rest ≡ all
@@ -30,23 +32,23 @@ next_at : {A : Type 0} (xs : List A) (i : ℕ) (d : A) → i < length xs → dro
 next_at xs i d lt =
     let k : i + 1 ≡ suc i = omega arith in rw k (drop-cons xs i d lt)
 
-pub extents-more : (core : ℕ) (out new all : List Extent) (segments : List Segment) (i : ℕ) (s : Segment) → i < length segments → s ≡ get_or segments i s
-    → new ≡ out ++ extent_of core s ∷ [] → out ++ map (extent_of core) (drop i segments) ≡ all → new ++ map (extent_of core) (drop (i + 1) segments) ≡ all
-extents-more core out new all segments i s lt here grown so_far =
-    more out new (extent_of core s ∷ []) (map (extent_of core) (drop (i + 1) segments)) all (map (extent_of core) (drop i segments)) grown (ap (map (extent_of core)) (next segments i s lt here)) so_far
+pub segments-more : (core : ℕ) (out new all : List LoadedSegment) (segments : List Segment) (i : ℕ) (s : Segment) → i < length segments → s ≡ get_or segments i s
+    → new ≡ out ++ loaded_segment core s ∷ [] → out ++ map (loaded_segment core) (drop i segments) ≡ all → new ++ map (loaded_segment core) (drop (i + 1) segments) ≡ all
+segments-more core out new all segments i s lt here grown so_far =
+    more out new (loaded_segment core s ∷ []) (map (loaded_segment core) (drop (i + 1) segments)) all (map (loaded_segment core) (drop i segments)) grown (ap (map (loaded_segment core)) (next segments i s lt here)) so_far
 
-pub extents-done : (core : ℕ) (out all : List Extent) (segments : List Segment) (i : ℕ) → length segments ≤ i → out ++ map (extent_of core) (drop i segments) ≡ all → out ≡ all
-extents-done core out all segments i le so_far = ended out (map (extent_of core) (drop i segments)) all (ap (map (extent_of core)) (drop_all i segments le)) so_far
+pub segments-done : (core : ℕ) (out all : List LoadedSegment) (segments : List Segment) (i : ℕ) → length segments ≤ i → out ++ map (loaded_segment core) (drop i segments) ≡ all → out ≡ all
+segments-done core out all segments i le so_far = ended out (map (loaded_segment core) (drop i segments)) all (ap (map (loaded_segment core)) (drop_all i segments le)) so_far
 
-pub images-more : (core : ℕ) (out new all : List Extent) (images : List Image) (i : ℕ) (image : Image) → i < length images → image ≡ get_or images i image
-    → new ≡ out ++ map (extent_of core) image.segments → out ++ extents_from core (drop i images) ≡ all → new ++ extents_from (core + 1) (drop (i + 1) images) ≡ all
-unfolding extents_from
+pub images-more : (core : ℕ) (out new all : List LoadedSegment) (images : List Image) (i : ℕ) (image : Image) → i < length images → image ≡ get_or images i image
+    → new ≡ out ++ map (loaded_segment core) image.segments → out ++ segments_from core (drop i images) ≡ all → new ++ segments_from (core + 1) (drop (i + 1) images) ≡ all
+unfolding segments_from
 images-more core out new all images i image lt here grown so_far =
-    more out new (map (extent_of core) image.segments) (extents_from (core + 1) (drop (i + 1) images)) all (extents_from core (drop i images)) grown (ap (extents_from core) (next images i image lt here)) so_far
+    more out new (map (loaded_segment core) image.segments) (segments_from (core + 1) (drop (i + 1) images)) all (segments_from core (drop i images)) grown (ap (segments_from core) (next images i image lt here)) so_far
 
-pub images-done : (core : ℕ) (out all : List Extent) (images : List Image) (i : ℕ) → length images ≤ i → out ++ extents_from core (drop i images) ≡ all → out ≡ all
-unfolding extents_from
-images-done core out all images i le so_far = ended out (extents_from core (drop i images)) all (ap (extents_from core) (drop_all i images le)) so_far
+pub images-done : (core : ℕ) (out all : List LoadedSegment) (images : List Image) (i : ℕ) → length images ≤ i → out ++ segments_from core (drop i images) ≡ all → out ≡ all
+unfolding segments_from
+images-done core out all images i le so_far = ended out (segments_from core (drop i images)) all (ap (segments_from core) (drop_all i images le)) so_far
 
 pub regions-more : (n : ℕ) (out new all : List LineZone) (rows : List RegionRow) (i : ℕ) (row : RegionRow) → i < length rows → row ≡ get_or rows i row
     → new ≡ out ++ region_zone n row ∷ [] → out ++ region_zones n (drop i rows) ≡ all → new ++ region_zones (n + 1) (drop (i + 1) rows) ≡ all
@@ -57,16 +59,6 @@ regions-more n out new all rows i row lt here grown so_far =
 pub regions-done : (n : ℕ) (out all : List LineZone) (rows : List RegionRow) (i : ℕ) → length rows ≤ i → out ++ region_zones n (drop i rows) ≡ all → out ≡ all
 unfolding region_zones
 regions-done n out all rows i le so_far = ended out (region_zones n (drop i rows)) all (ap (region_zones n) (drop_all i rows le)) so_far
-
-pub segments-more : (own : Bool) (out new all : List LineZone) (extents : List Extent) (i : ℕ) (d : Extent) → i < length extents
-    → new ≡ out ++ segment_zone own (get_or extents i d) → out ++ segment_zones own (drop i extents) ≡ all → new ++ segment_zones own (drop (i + 1) extents) ≡ all
-unfolding segment_zones
-segments-more own out new all extents i d lt grown so_far =
-    more out new (segment_zone own (get_or extents i d)) (segment_zones own (drop (i + 1) extents)) all (segment_zones own (drop i extents)) grown (ap (segment_zones own) (next_at extents i d lt)) so_far
-
-pub segments-done : (own : Bool) (out all : List LineZone) (extents : List Extent) (i : ℕ) → length extents ≤ i → out ++ segment_zones own (drop i extents) ≡ all → out ≡ all
-unfolding segment_zones
-segments-done own out all extents i le so_far = ended out (segment_zones own (drop i extents)) all (ap (segment_zones own) (drop_all i extents le)) so_far
 
 pub kind-more : (b : Board) (kind : PartKind) (i count : ℕ) (out new all : List PlaceZone) → i < count → new ≡ out ++ zones_at (part_of kind i) (spans_of b (part_of kind i))
     → out ++ kind_zones b kind i (count - i) ≡ all → new ++ kind_zones b kind (i + 1) (count - (i + 1)) ≡ all

@@ -1,7 +1,7 @@
 -- Guards: what must be owned to touch a line.
 use Rattle.std.specs.Prelude.{ℕ, ◌/◌, ◌%◌, ◌^◌, Bool, false, not, ◌&&◌, ◌==◌, Option, Some, None}
-use Rattle.n2_board.specs.declared.ground.Class.{Class}
-use Rattle.n2_board.specs.declared.ground.Class.TheVariants.{Code, Private, Mutex, Passed, Uncached, Absent}
+use Rattle.n2_board.specs.declared.classes.Class.{Class}
+use Rattle.n2_board.specs.declared.classes.Class.TheVariants.{Code, Private, Mutex, Passed, Uncached, Absent}
 
 -- a mutex, or a region that is passed on, by its number in the board
 pub data Guard : Type 0 where

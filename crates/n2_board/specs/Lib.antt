@@ -1,6 +1,7 @@
-pub mod Finding
-pub mod Ground
-pub mod Cut
+pub mod Segments
+pub mod Classes
+pub mod Places
+pub mod AddressMap
+pub mod Placement
+pub mod Access
 pub mod Guards
-pub mod Joining
-pub mod Meeting

@@ -1,11 +1,10 @@
 //! Which of some spans holds a point, by a search in a sorted table.
 
-ghost use Rattle.std.specs.Prelude.{◌≡◌, ℕ, ◌+◌, ◌<◌, ◌≤◌, ◌^◌, [], ◌∷◌, ◌++◌, IfOk, OnOk, IfSome, length, map, slice_index, option_map};
+ghost use Rattle.std.specs.Prelude.{◌≡◌, ℕ, ◌+◌, ◌<◌, ◌≤◌, ◌^◌, [], ◌∷◌, ◌++◌, IfOk, OnOk, IfSome, length, map, position, slice_index, option_map};
+ghost use Rattle.std.specs.List.{flat_map};
 ghost use Rattle.std.specs.List.Sorted.{IsNonDecreasing, IsPermutation};
-ghost use Rattle.n2_board.specs.Finding as spec;
-ghost use Rattle.n2_board.specs.Finding.{IsTable};
 ghost use Rattle.std.specs.Option.{option_or};
-ghost use Rattle.n2_board.specs.Joining.{AreUpTo};
+ghost use Rattle.n2_parts.specs.Rules.{holds};
 
 use n2_parts::Span;
 use n2_word::NoMemory;
@@ -13,7 +12,8 @@ use std::alloc::Global;
 use std::marker::Model;
 
 /// Spans; where they begin and end, in rising order; and at each of these points the number of the
-/// first span that holds it. Between two of them the answer does not change.
+/// first span that holds it. Between two of them the answer does not change. Contracts see the spans
+/// and the points.
 #[derive(Debug, Drop)]
 pub struct Finder {
     spans: Vec<Span>,
@@ -22,47 +22,26 @@ pub struct Finder {
 }
 
 impl Model for Finder {
-    ghost use Rattle.std.specs.Prelude.{List};
+    ghost use Rattle.std.specs.Prelude.{◌≡◌, ℕ, List, map, position};
+    ghost use Rattle.std.specs.List.{AllByRecursion, Contains};
+    ghost use Rattle.std.specs.List.Sorted.{IsNonDecreasing};
     ghost use Rattle.n2_parts.specs.declared.spans.Span.{Span as SpanValue};
-    ghost use Rattle.n2_board.specs.Finding.{IsTable};
+    ghost use Rattle.n2_parts.specs.Rules.{holds};
 
-    ghost Value = { List SpanValue };
+    ghost Value = { List SpanValue × List ℕ };
 
-    ghost view = { λ f. f.spans.items };
+    ghost view = { λ f. (f.spans.items, f.bounds.items) };
 
-    ghost invariant = { λ f. IsTable f.spans.items f.bounds.items f.found.items };
-}
-
-fn holds(span: Span, point: u64) -> bool
-    ensures { result ≡ spec.holds span point }
-{
-    span.from <= point && point < span.end
+    ghost invariant = { λ f. IsNonDecreasing f.bounds.items
+        × AllByRecursion (λ span. Contains f.bounds.items span.from × Contains f.bounds.items span.end) f.spans.items
+        × (f.found.items ≡ map (λ point. position (λ span. holds span point) f.spans.items) f.bounds.items) };
 }
 
 /// The number of the first span that holds a point, one by one.
 fn first_holding(spans: &[Span], point: u64) -> Option<usize>
-    ensures { result ≡ spec.first_holding spans.now point }
+    ensures { result ≡ position (λ span. holds span point) spans.now }
 {
-    let mut before = 0;
-    for span in spans {
-        if holds(*span, point) {
-            return Some(before);
-        }
-        before += 1;
-    }
-    None
-}
-
-/// Where spans begin and end.
-fn bounds_of(alloc: Global, spans: &[Span]) -> Result<Vec<u64>, NoMemory>
-    ensures { IfOk result (λ bounds. bounds.items ≡ spec.bounds_of spans.now) }
-{
-    let mut bounds = Vec::new(alloc);
-    for span in spans {
-        put(&mut bounds, span.from)?;
-        put(&mut bounds, span.end)?;
-    }
-    Ok(bounds)
+    spans.iter().position(|span| span.holds(point))
 }
 
 fn put(bounds: &mut Vec<u64>, bound: u64) -> Result<(), NoMemory>
@@ -72,6 +51,18 @@ fn put(bounds: &mut Vec<u64>, bound: u64) -> Result<(), NoMemory>
         Ok(()) => Ok(()),
         Err(_) => Err(NoMemory),
     }
+}
+
+/// Where spans begin and end.
+fn bounds_of(alloc: Global, spans: &[Span]) -> Result<Vec<u64>, NoMemory>
+    ensures { IfOk result (λ bounds. bounds.items ≡ flat_map (λ span. span.from ∷ span.end ∷ []) spans.now) }
+{
+    let mut bounds = Vec::new(alloc);
+    for span in spans {
+        put(&mut bounds, span.from)?;
+        put(&mut bounds, span.end)?;
+    }
+    Ok(bounds)
 }
 
 fn put_found(found: &mut Vec<Option<usize>>, one: Option<usize>) -> Result<(), NoMemory>
@@ -85,7 +76,7 @@ fn put_found(found: &mut Vec<Option<usize>>, one: Option<usize>) -> Result<(), N
 
 /// The number of the first span that holds each of some points.
 fn all_found(alloc: Global, spans: &[Span], points: &[u64]) -> Result<Vec<Option<usize>>, NoMemory>
-    ensures { IfOk result (λ found. found.items ≡ map (λ point. spec.first_holding spans.now point) points.now) }
+    ensures { IfOk result (λ found. found.items ≡ map (λ point. position (λ span. holds span point) spans.now) points.now) }
 {
     let mut found = Vec::new(alloc);
     for point in points {
@@ -94,58 +85,27 @@ fn all_found(alloc: Global, spans: &[Span], points: &[u64]) -> Result<Vec<Option
     Ok(found)
 }
 
+fn copy_spans(alloc: Global, spans: &[Span]) -> Result<Vec<Span>, NoMemory>
+    ensures { IfOk result (λ copies. copies.items ≡ spans.now) }
+{
+    match Vec::from_slice(alloc, spans) {
+        Ok(copies) => Ok(copies),
+        Err(_) => Err(NoMemory),
+    }
+}
+
 /// No more spans than this are looked at one by one.
 const FEW: usize = 8;
 
-/// Spans; their bounds, in rising order; and at each of these the number of the first span that
-/// holds it. Two tables are joined in time linear in their bounds.
-#[derive(Drop)]
-struct Table<'a> {
-    spans: &'a [Span],
-    bounds: Vec<u64>,
-    found: Vec<Option<usize>>,
-}
-
-/// How many of some rising numbers are at most a number, counted on from so many that are.
-fn up_to_from(bounds: &[u64], known: usize, point: u64) -> usize
-    requires rising { IsNonDecreasing bounds.now }
-    requires known { AreUpTo bounds.now known point }
-    ensures up_to { AreUpTo bounds.now result point }
-    ensures above { (k : ℕ) → result ≤ k → k < length bounds.now → point < slice_index bounds.now k }
-{
-    let mut n = known;
-    while n < bounds.len() && bounds[n] <= point {
-        n += 1;
-    }
-    n
-}
-
-impl Table<'_> {
-    /// How many bounds are at most a point, counted on from so many that are, and the number of the
-    /// first span that holds the point.
-    fn find_from(&self, known: usize, point: u64) -> (usize, Option<usize>)
-        requires table { IsTable self.now.spans.now self.now.bounds.items self.now.found.items }
-        requires known { AreUpTo self.now.bounds.items known point }
-        ensures up_to { AreUpTo self.now.bounds.items result.0 point }
-        ensures found { result.1 ≡ spec.first_holding self.now.spans.now point }
-    {
-        let n = up_to_from(self.bounds.as_slice(), known, point);
-        if n == 0 {
-            return (0, None);
-        }
-        (n, self.found[n - 1])
-    }
-}
-
-/// The table of a few spans.
-fn short_table(alloc: Global, spans: &[Span]) -> Result<Table<'_>, NoMemory>
-    ensures spans { IfOk result (λ table. table.spans.now ≡ spans.now) }
-    ensures table { IfOk result (λ table. IsTable table.spans.now table.bounds.items table.found.items) }
+/// The finder of a few spans.
+fn short_finder(alloc: Global, spans: &[Span]) -> Result<Finder, NoMemory>
+    ensures { IfOk result (λ finder. finder.0 ≡ spans.now) }
 {
     let mut bounds = bounds_of(alloc, spans)?;
     bounds.sort_unstable();
     let found = all_found(alloc, spans, bounds.as_slice())?;
-    Ok(Table {
+    let spans = copy_spans(alloc, spans)?;
+    Ok(Finder {
         spans,
         bounds,
         found,
@@ -183,19 +143,19 @@ fn either(here: Option<usize>, count: usize, behind: Option<usize>) -> Option<us
     }
 }
 
-/// The number of the first span of two tables, one behind the other, that holds each of some
+/// The number of the first span of two finders, one behind the other, that holds each of some
 /// rising points.
 fn both_found(
     alloc: Global,
-    first: &Table<'_>,
-    second: &Table<'_>,
+    first: &Finder,
+    count: usize,
+    second: &Finder,
     points: &[u64],
 ) -> Result<Vec<Option<usize>>, NoMemory>
-    requires first { IsTable first.now.spans.now first.now.bounds.items first.now.found.items }
-    requires second { IsTable second.now.spans.now second.now.bounds.items second.now.found.items }
-    requires fit { length first.now.spans.now + length second.now.spans.now < 2 ^ 64 }
+    requires count { length first.now.0 ≡ count }
+    requires fit { count + length second.now.0 < 2 ^ 64 }
     requires rising { IsNonDecreasing points.now }
-    ensures { IfOk result (λ found. found.items ≡ map (λ point. spec.first_holding (first.now.spans.now ++ second.now.spans.now) point) points.now) }
+    ensures { IfOk result (λ found. found.items ≡ map (λ point. position (λ span. holds span point) (first.now.0 ++ second.now.0)) points.now) }
 {
     let mut found = Vec::new(alloc);
     let mut in_first = 0;
@@ -203,31 +163,26 @@ fn both_found(
     for point in points {
         let (passed, here) = first.find_from(in_first, *point);
         let (passed_behind, behind) = second.find_from(in_second, *point);
-        put_found(&mut found, either(here, first.spans.len(), behind))?;
+        put_found(&mut found, either(here, count, behind))?;
         in_first = passed;
         in_second = passed_behind;
     }
     Ok(found)
 }
 
-/// The table of some spans, by those of the first and the second half.
-fn table_of(alloc: Global, spans: &[Span]) -> Result<Table<'_>, NoMemory>
-    ensures spans { IfOk result (λ table. table.spans.now ≡ spans.now) }
-    ensures table { IfOk result (λ table. IsTable table.spans.now table.bounds.items table.found.items) }
+/// How many of some rising numbers are at most a number, counted on from so many that are.
+#[inline(always)]
+fn up_to_from(bounds: &[u64], known: usize, point: u64) -> usize
+    requires rising { IsNonDecreasing bounds.now }
+    requires known { (known ≤ length bounds.now) × ((k : ℕ) → k < known → slice_index bounds.now k ≤ point) }
+    ensures up_to { (result ≤ length bounds.now) × ((k : ℕ) → k < result → slice_index bounds.now k ≤ point) }
+    ensures above { (k : ℕ) → result ≤ k → k < length bounds.now → point < slice_index bounds.now k }
 {
-    if spans.len() <= FEW {
-        return short_table(alloc, spans);
+    let mut n = known;
+    while n < bounds.len() && bounds[n] <= point {
+        n += 1;
     }
-    let (front, back) = spans.split_at(spans.len() / 2);
-    let first = table_of(alloc, front)?;
-    let second = table_of(alloc, back)?;
-    let bounds = both_bounds(alloc, first.bounds.as_slice(), second.bounds.as_slice())?;
-    let found = both_found(alloc, &first, &second, bounds.as_slice())?;
-    Ok(Table {
-        spans,
-        bounds,
-        found,
-    })
+    n
 }
 
 /// How many of some rising numbers are at most a number.
@@ -251,15 +206,20 @@ fn up_to(bounds: &[u64], point: u64) -> usize
 }
 
 impl Finder {
-    /// Makes the table for some spans.
-    pub fn open(alloc: Global, spans: Vec<Span>) -> Result<Finder, NoMemory>
-        ensures { IfOk result (λ finder. finder ≡ spans.items) }
+    /// The finder of some spans, by those of their first and their second half. Two finders are
+    /// joined in time linear in their bounds.
+    pub fn open(alloc: Global, spans: &[Span]) -> Result<Finder, NoMemory>
+        ensures { IfOk result (λ finder. finder.0 ≡ spans.now) }
     {
-        let Table {
-            spans: _,
-            bounds,
-            found,
-        } = table_of(alloc, spans.as_slice())?;
+        if spans.len() <= FEW {
+            return short_finder(alloc, spans);
+        }
+        let (front, back) = spans.split_at(spans.len() / 2);
+        let first = Finder::open(alloc, front)?;
+        let second = Finder::open(alloc, back)?;
+        let bounds = both_bounds(alloc, &first.bounds, &second.bounds)?;
+        let found = both_found(alloc, &first, front.len(), &second, &bounds)?;
+        let spans = copy_spans(alloc, spans)?;
         Ok(Finder {
             spans,
             bounds,
@@ -269,12 +229,27 @@ impl Finder {
 
     /// The number of the first span that holds a point.
     pub fn find(&self, point: u64) -> Option<usize>
-        ensures { result ≡ spec.first_holding self.now point }
+        ensures { result ≡ position (λ span. holds span point) self.now.0 }
     {
         let n = up_to(self.bounds.as_slice(), point);
         if n == 0 {
             return None;
         }
         self.found[n - 1]
+    }
+
+    /// How many bounds are at most a point, counted on from so many that are, and the number of the
+    /// first span that holds the point.
+    #[inline(always)]
+    pub fn find_from(&self, known: usize, point: u64) -> (usize, Option<usize>)
+        requires { (known ≤ length self.now.1) × ((k : ℕ) → k < known → slice_index self.now.1 k ≤ point) }
+        ensures up_to { (result.0 ≤ length self.now.1) × ((k : ℕ) → k < result.0 → slice_index self.now.1 k ≤ point) }
+        ensures found { result.1 ≡ position (λ span. holds span point) self.now.0 }
+    {
+        let n = up_to_from(self.bounds.as_slice(), known, point);
+        if n == 0 {
+            return (0, None);
+        }
+        (n, self.found[n - 1])
     }
 }

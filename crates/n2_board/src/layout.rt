@@ -1,26 +1,34 @@
 //! A board with its images: the class of each line and the place of each address.
 
-ghost use Rattle.std.specs.Prelude.{◌≡◌, ◌≢◌, ◌<◌, ◌^◌, None, Some, IfOk, OnOk, IfErr, ◌∷◌, length, map, option_map, slice_get};
-ghost use Rattle.n2_board.specs.Ground as spec;
+ghost use Rattle.std.specs.Prelude.{◌≡◌, ◌≢◌, ℕ, ◌/◌, ◌<◌, ◌^◌, None, Some, IfOk, OnOk, IfErr, IfSome, MatchOption, ◌∷◌, length, map, unwrap_or, option_map, option_and_then, slice_get};
+ghost use Rattle.std.specs.List.{All};
 ghost use Rattle.n2_parts.specs.Parts as parts;
-ghost use Rattle.n2_parts.specs.Valid.{IsSmall, IsValid};
+ghost use Rattle.n2_parts.specs.Valid.{IsValid};
+ghost use Rattle.n2_board.specs.AddressMap as spec;
+ghost use Rattle.n2_board.specs.Classes as classes;
+ghost use Rattle.n2_board.specs.Places as places;
+ghost use Rattle.n2_board.specs.Placement.{open_fault};
 
+use crate::classes::{Class, LineZone, line_zones};
 use crate::finder::Finder;
-use crate::fitting::misfit;
-use crate::ground::{
-    Area, Class, Extent, LineZone, OpenFault, Place, PlaceZone, extents_of, line_zones, place_zones,
-};
+use crate::placement::{OpenFault, first_placement_fault};
+use crate::places::{Area, Place, PlaceZone, place_zones};
+use crate::segments::{LoadedSegment, loaded_segments};
+use crate::table::{ClassTable, class_found, class_table};
 use n2_elf::Image;
-use n2_parts::{Board, PartKind, Span};
+use n2_parts::{Board, MemoryRow, PartKind, Span, copy_memories, line_place};
+use n2_text::Items;
 use n2_word::NoMemory;
 use std::alloc::Global;
 use std::marker::Model;
 
 /// A board with its images. Contracts see the lines with their classes and the bytes with their
-/// places, of which the first that holds a line or an address counts; a look-up searches in sorted
-/// tables.
+/// places, of which the first that holds a line or an address counts. A line of a memory is looked
+/// up in a table by its place; what is outside of the memories is searched for in sorted tables.
 #[derive(Debug, Drop)]
 pub struct Layout {
+    memories: Items<MemoryRow>,
+    classes: ClassTable,
     lines: Vec<LineZone>,
     line_finder: Finder,
     places: Vec<PlaceZone>,
@@ -28,13 +36,22 @@ pub struct Layout {
 }
 
 impl Model for Layout {
-    ghost use Rattle.n2_board.specs.Ground.{Ground, AreOf};
+    ghost use Rattle.std.specs.Prelude.{◌≡◌, ◌≢◌, ℕ, ◌/◌, ◌<◌, ◌^◌, IfSome, MatchOption, map, slice_get};
+    ghost use Rattle.n2_parts.specs.MemoryLines.{line_count, line_place};
+    ghost use Rattle.n2_board.specs.declared.places.Place.TheVariants.{Memory};
+    ghost use Rattle.n2_board.specs.AddressMap.{AddressMap};
+    ghost use Rattle.n2_board.specs.Classes.{class_in};
+    ghost use Rattle.n2_board.specs.Places.{place_in};
 
-    ghost Value = { Ground };
+    ghost Value = { AddressMap };
 
     ghost view = { λ l. record { lines = l.lines.items; places = l.places.items } };
 
-    ghost invariant = { λ l. AreOf l.lines.items l.line_finder l.places.items l.place_finder };
+    ghost invariant = { λ l. (line_count l.memories < 2 ^ 32)
+        × ((line : ℕ) → IfSome (slice_get l.classes (line_place l.memories line)) (λ class. class ≡ class_in l.lines.items line))
+        × ((address : ℕ) → MatchOption (slice_get l.classes (line_place l.memories (address / 32))) (place_in l.places.items address ≢ Memory) (λ _. place_in l.places.items address ≡ Memory))
+        × (l.line_finder.0 ≡ map (λ zone. zone.lines) l.lines.items)
+        × (l.place_finder.0 ≡ map (λ zone. zone.bytes) l.places.items) };
 }
 
 fn line_spans(alloc: Global, zones: &[LineZone]) -> Result<Vec<Span>, NoMemory>
@@ -57,45 +74,8 @@ fn place_spans(alloc: Global, zones: &[PlaceZone]) -> Result<Vec<Span>, NoMemory
     }
 }
 
-/// The layout of a board and segments.
-fn index(alloc: Global, board: &Board, extents: &[Extent]) -> Result<Layout, NoMemory>
-    requires { IsSmall board.now }
-    ensures lines { IfOk result (λ layout. layout.lines ≡ spec.line_zones board.now extents.now) }
-    ensures places { IfOk result (λ layout. layout.places ≡ spec.place_zones board.now (PartKind.Memory ∷ parts.devices)) }
-{
-    let lines = line_zones(alloc, board, extents)?;
-    let places = place_zones(alloc, board)?;
-    let line_finder = Finder::open(alloc, line_spans(alloc, lines.as_slice())?)?;
-    let place_finder = Finder::open(alloc, place_spans(alloc, places.as_slice())?)?;
-    Ok(Layout {
-        lines,
-        line_finder,
-        places,
-        place_finder,
-    })
-}
-
-/// The zone of a number, if there is one.
-fn nth<T>(items: &[T], i: usize) -> Option<&T>
-    ensures { option_map (λ r. r.now) result ≡ slice_get items.now i }
-{
-    items.get(i)
-}
-
-fn class_found(zones: &[LineZone], found: Option<usize>) -> Class
-    ensures { result ≡ spec.class_found zones.now found }
-{
-    match found {
-        None => Class::Absent,
-        Some(i) => match nth(zones, i) {
-            None => Class::Absent,
-            Some(zone) => zone.class,
-        },
-    }
-}
-
 fn place_at(area: Area, from: u64, address: u32) -> Place
-    ensures { result ≡ spec.place_at area from address }
+    ensures { result ≡ places.place_at area from address }
 {
     match area {
         Area::InMemory => Place::Memory,
@@ -107,52 +87,107 @@ fn place_at(area: Area, from: u64, address: u32) -> Place
     }
 }
 
+/// The place of an address in the zone of that number.
 fn place_found(zones: &[PlaceZone], address: u32, found: Option<usize>) -> Place
-    ensures { result ≡ spec.place_found zones.now address found }
+    ensures { result ≡ unwrap_or (option_map (λ zone. places.place_at zone.area zone.bytes.from address) (option_and_then (λ i. slice_get zones.now i) found)) Place.Nothing }
 {
     match found {
         None => Place::Nothing,
-        Some(i) => match nth(zones, i) {
+        Some(i) => match zones.get(i) {
             None => Place::Nothing,
             Some(zone) => place_at(zone.area, zone.bytes.from, address),
         },
     }
 }
 
+/// The layout of a board and segments.
+fn index(alloc: Global, board: &Board, segments: &[LoadedSegment]) -> Result<Layout, NoMemory>
+    requires valid { IsValid board.now }
+    requires cores { All (λ s. s.core < length board.now.core) segments.now }
+    ensures lines { IfOk result (λ layout. layout.lines ≡ classes.line_zones board.now segments.now) }
+    ensures places { IfOk result (λ layout. layout.places ≡ places.place_zones board.now (PartKind.Memory ∷ parts.devices)) }
+{
+    let lines = line_zones(alloc, board, segments)?;
+    let line_finder = Finder::open(alloc, &line_spans(alloc, &lines)?)?;
+    let memories = copy_memories(alloc, board.memory.as_slice())?;
+    let classes = class_table(alloc, memories.as_slice(), &line_finder, &lines)?;
+    let places = place_zones(alloc, board)?;
+    let place_finder = Finder::open(alloc, &place_spans(alloc, &places)?)?;
+    Ok(Layout {
+        memories,
+        classes,
+        lines,
+        line_finder,
+        places,
+        place_finder,
+    })
+}
+
 impl Layout {
     /// The layout of a valid board with one image for each core, or the first thing that does not
     /// fit: a segment that is not inside one memory, a first program counter that is not a multiple
     /// of 4 in a memory, images that share a line, each for the lowest core or pair.
-    #[tactic(auto, unfolding(crate::specs::Ground::ground_of))]
+    #[tactic(auto, unfolding(crate::specs::AddressMap::address_map))]
     pub fn open(alloc: Global, board: &Board, images: &[Image]) -> Result<Layout, OpenFault>
         requires valid { IsValid board.now }
         requires images { length images.now ≡ length board.now.core }
-        ensures opened { IfOk result (λ layout. layout ≡ spec.ground_of board.now images.now) }
-        ensures fits { OnOk result (spec.open_fault board.now images.now ≡ None) }
-        ensures fault { IfErr result (λ fault. fault ≢ OpenFault.NoMemory → spec.open_fault board.now images.now ≡ Some fault) }
+        ensures opened { IfOk result (λ layout. layout ≡ spec.address_map board.now images.now) }
+        ensures fits { OnOk result (open_fault board.now images.now ≡ None) }
+        ensures fault { IfErr result (λ fault. fault ≢ OpenFault.NoMemory → open_fault board.now images.now ≡ Some fault) }
     {
-        let extents = extents_of(alloc, images)?;
-        match misfit(alloc, board, images, extents.as_slice())? {
+        let segments = loaded_segments(alloc, images)?;
+        match first_placement_fault(alloc, board, images, segments.as_slice())? {
             Some(fault) => return Err(fault),
             None => (),
         }
-        let layout = index(alloc, board, extents.as_slice())?;
+        let layout = index(alloc, board, segments.as_slice())?;
         Ok(layout)
     }
 
-    /// The class of a line.
-    pub fn class_of(&self, line: u32) -> Class
+    /// The class of a line, if a memory has it.
+    #[inline(always)]
+    pub(crate) fn memory_class(&self, line: u32) -> Option<Class>
+        ensures class { IfSome result (λ class. class ≡ spec.class_of self.now line) }
+        ensures memory { (address : ℕ) → address / 32 ≡ line → MatchOption result (spec.place self.now address ≢ Place.Memory) (λ _. spec.place self.now address ≡ Place.Memory) }
+    {
+        self.classes.get(line_place(self.memories.as_slice(), line))
+    }
+
+    /// The class of a line, by the search.
+    fn class_searched(&self, line: u32) -> Class
         ensures { result ≡ spec.class_of self.now line }
     {
         let found = self.line_finder.find(u64::from(line));
         class_found(self.lines.as_slice(), found)
     }
 
-    /// The place of an address, whose bit 31 is clear.
-    pub fn place(&self, address: u32) -> Place
+    /// The place of an address, by the search.
+    pub(crate) fn place_searched(&self, address: u32) -> Place
         ensures { result ≡ spec.place self.now address }
     {
         let found = self.place_finder.find(u64::from(address));
         place_found(self.places.as_slice(), address, found)
+    }
+
+    /// The class of a line.
+    #[inline(always)]
+    pub fn class_of(&self, line: u32) -> Class
+        ensures { result ≡ spec.class_of self.now line }
+    {
+        match self.memory_class(line) {
+            Some(class) => class,
+            None => self.class_searched(line),
+        }
+    }
+
+    /// The place of an address, whose bit 31 is clear.
+    #[inline(always)]
+    pub fn place(&self, address: u32) -> Place
+        ensures { result ≡ spec.place self.now address }
+    {
+        match self.memory_class(address / 32) {
+            Some(_) => Place::Memory,
+            None => self.place_searched(address),
+        }
     }
 }

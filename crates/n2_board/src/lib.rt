@@ -1,21 +1,27 @@
 //! What stands where on a board with its images, and who may touch it.
 #![tactic(auto)]
 
-mod cut;
+mod access;
+mod classes;
 mod finder;
-mod fitting;
-mod ground;
 pub mod laws;
 mod layout;
+mod overlaps;
+mod placement;
+mod places;
+mod segments;
+mod table;
 
-pub use cut::Cut;
-pub use ground::{Class, OpenFault, Place};
+pub use access::{Direction, Route, Target, Violation};
+pub use classes::Class;
 pub use layout::Layout;
 pub use n2_parts::{
     ARRAYS, Act, Board, BoardFault, CoreRow, DeviceEvent, DumpRow, Key, Kind, MailboxRow,
     MemoryRow, MutexRow, Part, PartKind, Refusal, RegionClass, RegionRow, ScriptRow, Stop,
     TimerRow, UartRow, valid,
 };
+pub use placement::OpenFault;
+pub use places::Place;
 
 #[cfg(test)]
 mod tests;

@@ -92,8 +92,16 @@ fn tells_classes_and_places(rt: HostRuntime) -> Result<(), Fail> {
         index: 0,
     };
     assert!(rt; layout.place(0x2_0004) == Place::Device { part, offset: 1 });
-    assert!(rt; layout.fetch_cut(0x1000) == None);
-    assert!(rt; layout.data_cut(0, 0x8000, Width::Half, false, true) == None);
+    assert!(rt; layout.fetch_violation(0x1000) == None);
+    let route = Route::of(0x2_0000, true);
+    assert!(rt;
+        layout.data_target(0, 0x8000, Width::Half, Route::Cached, Direction::Store)
+            == Ok(Target::Memory)
+    );
+    assert!(rt;
+        layout.data_target(0, 0x2_0000, Width::Word, route, Direction::Load)
+            == Ok(Target::Device { part, offset: 0 })
+    );
     Ok(())
 }
 

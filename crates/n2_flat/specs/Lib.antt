@@ -1,4 +1,3 @@
 pub mod Memory
 pub mod PlainBoard
 pub mod Machine
-pub mod Report

@@ -7,7 +7,7 @@ use Rattle.n2_parts.specs.declared.board.CoreRow.{CoreRow}
 use Rattle.n2_parts.specs.declared.board.UartRow.{UartRow}
 use Rattle.n2_parts.specs.declared.board.RegionRow.{RegionRow}
 use Rattle.n2_parts.specs.declared.board.RegionClass.TheVariants as classes
-use Rattle.n2_board.specs.Ground.{Ground, ground_of}
+use Rattle.n2_board.specs.AddressMap.{AddressMap, address_map}
 
 abbrev pub plain_memory : MemoryRow
 plain_memory = record { base = 0; size = 65536 }
@@ -40,5 +40,5 @@ plain_board = record {
 }
 
 -- the layout of the plain board with an image
-abbrev pub plain_ground : Image → Ground
-plain_ground image = ground_of plain_board (image ∷ [])
+abbrev pub plain_map : Image → AddressMap
+plain_map image = address_map plain_board (image ∷ [])

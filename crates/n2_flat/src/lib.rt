@@ -4,12 +4,10 @@
 mod board;
 mod machine;
 mod memory;
-mod report;
 
 pub use board::plain_board;
 pub use machine::{PlainEnd, PlainFault, plain_run};
 pub use n2_board::{Kind, Refusal, Stop};
-pub use report::{plain_text, status};
 
 #[cfg(test)]
 mod tests;

@@ -2,16 +2,16 @@
 
 ghost use Rattle.std.specs.Prelude.{◌≡◌, ℕ, ◌/◌, ◌^◌, ◌<◌, [], ◌∷◌, None, length, Ok, IfOk, OnOk, MatchResult, IsTrue};
 ghost use Rattle.n2_word.specs.Words.{is_aligned};
-ghost use Rattle.n2_word.specs.Lines.{without_bypass, bypasses as bypasses_at};
+ghost use Rattle.n2_word.specs.Lines.{without_bypass};
 ghost use Rattle.n2_exec.specs.Outcomes.{IsProper};
 ghost use Rattle.n2_elf.specs.Reading.{IsSized};
-ghost use Rattle.n2_board.specs.Ground.{open_fault};
-ghost use Rattle.n2_flat.specs.PlainBoard.{plain_board, plain_ground};
+ghost use Rattle.n2_board.specs.Placement.{open_fault};
+ghost use Rattle.n2_flat.specs.PlainBoard.{plain_board, plain_map};
 ghost use Rattle.n2_flat.specs.Machine.{started, flat, stop_for as stop_of, sent_by, load_from, store_to, performed, running, retired_times, plain, AnswersTo, HasMemory};
 
 use crate::board::{EXCEPTION, MEMORY_BYTES, WRITE_DEPTH};
 use crate::memory::{open_memory, read, write};
-use n2_board::{Cut, Kind, Layout, Place, Refusal, Stop};
+use n2_board::{Direction, Kind, Layout, Refusal, Route, Stop, Target, Violation};
 use n2_elf::Image;
 use n2_exec::{Asked, Regs, act_word, extended, waiting};
 use n2_text::Items;
@@ -40,12 +40,12 @@ pub enum PlainFault {
 /// The number of the one core.
 const CORE: u32 = 0;
 
-fn stop_for(cut: Cut, pc: u32, word: u32, address: u32) -> Stop
-    ensures { result ≡ stop_of cut pc word address }
+fn stop_for(violation: Violation, pc: u32, word: u32, address: u32) -> Stop
+    ensures { result ≡ stop_of violation pc word address }
 {
-    match cut {
-        Cut::Stray => Stop::Stray(address),
-        Cut::Separate => Stop::Refused(Refusal {
+    match violation {
+        Violation::Stray => Stop::Stray(address),
+        Violation::Separate => Stop::Refused(Refusal {
             kind: Kind::Separate,
             pc,
             insn: word,
@@ -53,14 +53,6 @@ fn stop_for(cut: Cut, pc: u32, word: u32, address: u32) -> Stop
             line: line_of(address),
         }),
     }
-}
-
-/// Whether a load or store goes past the cache.
-#[inline(always)]
-fn bypasses(address: u32, io: bool) -> bool
-    ensures { result ≡ bypasses_at address io }
-{
-    io || address >= 0x8000_0000
 }
 
 impl PlainEnd {
@@ -98,7 +90,7 @@ impl PlainEnd {
     #[inline(always)]
     fn load(
         &mut self,
-        place: Place,
+        target: Target,
         memory: &[u32],
         word: u32,
         address: u32,
@@ -106,46 +98,46 @@ impl PlainEnd {
         signed: bool,
         to: u8,
     ) -> Result<(), PlainFault>
-        requires inside { place ≡ Place.Memory → without_bypass address / 4 < length memory.now }
+        requires inside { target ≡ Target.Memory → without_bypass address / 4 < length memory.now }
         requires register { to < 32 }
         requires aligned { IsTrue (is_aligned address width) }
-        ensures { MatchResult result (λ _. load_from place (flat memory.now self.old) word address width signed to ≡ Ok (flat memory.now self.new)) (λ fault. AnswersTo (load_from place (flat memory.now self.old) word address width signed to) fault) }
+        ensures { MatchResult result (λ _. load_from target (flat memory.now self.old) word address width signed to ≡ Ok (flat memory.now self.new)) (λ fault. AnswersTo (load_from target (flat memory.now self.old) word address width signed to) fault) }
     {
-        match place {
-            Place::Memory => {
+        match target {
+            Target::Memory => {
                 let value = extended(read(memory, address & 0x7fff_ffff, width), width, signed);
                 self.regs.put_loaded(to, value);
                 Ok(())
             }
-            Place::Device { .. } | Place::Nothing => Err(self.unbuilt(word)),
+            Target::Device { .. } => Err(self.unbuilt(word)),
         }
     }
 
     #[inline(always)]
     fn store(
         &mut self,
-        place: Place,
+        target: Target,
         memory: &mut [u32],
         word: u32,
         address: u32,
         width: Width,
         value: u32,
     ) -> Result<(), PlainFault>
-        requires inside { place ≡ Place.Memory → without_bypass address / 4 < length memory.old }
+        requires inside { target ≡ Target.Memory → without_bypass address / 4 < length memory.old }
         requires aligned { IsTrue (is_aligned address width) }
-        ensures { MatchResult result (λ _. store_to place (flat memory.old self.old) word address width value ≡ Ok (flat memory.new self.new)) (λ fault. AnswersTo (store_to place (flat memory.old self.old) word address width value) fault) }
+        ensures { MatchResult result (λ _. store_to target (flat memory.old self.old) word address width value ≡ Ok (flat memory.new self.new)) (λ fault. AnswersTo (store_to target (flat memory.old self.old) word address width value) fault) }
     {
-        match place {
-            Place::Memory => {
+        match target {
+            Target::Memory => {
                 write(memory, address & 0x7fff_ffff, width, value);
                 self.regs.advance();
                 Ok(())
             }
-            Place::Device { offset: 0, .. } => match self.send(value) {
+            Target::Device { offset: 0, .. } => match self.send(value) {
                 Ok(()) => Ok(()),
                 Err(NoMemory) => Err(PlainFault::NoMemory),
             },
-            Place::Device { .. } | Place::Nothing => Err(self.unbuilt(word)),
+            Target::Device { .. } => Err(self.unbuilt(word)),
         }
     }
 
@@ -170,30 +162,36 @@ impl PlainEnd {
                 signed,
                 io,
                 to,
-            } => match layout.data_cut(CORE, address, width, bypasses(address, io), false) {
-                Some(cut) => {
-                    self.stop = Some(stop_for(cut, self.regs.pc, word, address));
+            } => match layout.data_target(
+                CORE,
+                address,
+                width,
+                Route::of(address, io),
+                Direction::Load,
+            ) {
+                Err(violation) => {
+                    self.stop = Some(stop_for(violation, self.regs.pc, word, address));
                     Ok(())
                 }
-                None => {
-                    let place = layout.place(address & 0x7fff_ffff);
-                    self.load(place, memory, word, address, width, signed, to)
-                }
+                Ok(target) => self.load(target, memory, word, address, width, signed, to),
             },
             Asked::Store {
                 address,
                 width,
                 value,
                 io,
-            } => match layout.data_cut(CORE, address, width, bypasses(address, io), true) {
-                Some(cut) => {
-                    self.stop = Some(stop_for(cut, self.regs.pc, word, address));
+            } => match layout.data_target(
+                CORE,
+                address,
+                width,
+                Route::of(address, io),
+                Direction::Store,
+            ) {
+                Err(violation) => {
+                    self.stop = Some(stop_for(violation, self.regs.pc, word, address));
                     Ok(())
                 }
-                None => {
-                    let place = layout.place(address & 0x7fff_ffff);
-                    self.store(place, memory, word, address, width, value)
-                }
+                Ok(target) => self.store(target, memory, word, address, width, value),
             },
             Asked::LineOp { .. } | Asked::CodeOp { .. } => {
                 self.regs.advance();
@@ -221,8 +219,8 @@ impl PlainEnd {
             return Ok(());
         }
         let pc = self.regs.pc;
-        if let Some(cut) = layout.fetch_cut(pc) {
-            self.stop = Some(stop_for(cut, pc, 0, pc));
+        if let Some(violation) = layout.fetch_violation(pc) {
+            self.stop = Some(stop_for(violation, pc, 0, pc));
             return Ok(());
         }
         let word = memory[(pc / 4) as usize];
@@ -258,7 +256,7 @@ pub fn plain_run(
 ) -> Result<PlainEnd, PlainFault>
     requires sized { IsSized image.now }
     requires fits { open_fault plain_board (image.now ∷ []) ≡ None }
-    requires opened { layout.now ≡ plain_ground image.now }
+    requires opened { layout.now ≡ plain_map image.now }
     ensures { MatchResult result (λ end. plain image.now steps ≡ Ok end) (λ fault. AnswersTo (plain image.now steps) fault) }
 {
     let Ok(mut memory) = open_memory(alloc, MEMORY_BYTES / 4, image) else {

@@ -1,6 +1,7 @@
 -- What holds of the parts of a valid board.
 use Rattle.std.proofs.Common.{◌≡◌, ℕ, zero, suc, ◌+◌, ◌<◌, ◌≤◌, Bool, true, false, eqb, leb, not, List, [], ◌∷◌, length, Option, Some, None, slice_get, refl, sym, ap, ◌∙◌, inl, inr, arith}
 use Rattle.std.specs.Prelude.{option_and_then}
+use Rattle.std.proofs.lemmas.Option.{slice_get_within}
 use Rattle.std.proofs.lemmas.Bool.{leb-true, eq-eqb, cases_eq, ne_eqb, and_parts}
 use Rattle.n2_word.specs.Lines.{is_cache_size}
 use Rattle.n2_parts.specs.declared.board.Board.{Board}
@@ -94,12 +95,6 @@ keeps b valid kind i given lt =
       inside = part_none b (inside_fault b) kind i r.insides given lt;
     }
 
-pub there : {A : Type 0} (rows : List A) (i : ℕ) (row : A) → slice_get rows i ≡ Some row → i < length rows
-there [] zero row e = absurd cc
-there [] (suc i) row e = absurd cc
-there (x ∷ rows) zero row e = omega arith
-there (x ∷ rows) (suc i) row e = omega (arith, there rows i row e)
-
 some_none : {fault : BoardFault} → Some fault ≡ None → ⊥
 some_none e = absurd cc
 
@@ -108,8 +103,8 @@ pub one_cpuid : (b : Board) → IsValid b → (i j : ℕ) (a c : CoreRow) → sl
 unfolding first_part same_cpuid
 one_cpuid b valid i j a c ea ec same =
     let r = rules b valid in
-    let outer = kind_none b Core (λ p. first_part b (Core ∷ []) (λ q. same_cpuid b p q)) i (none_both _ _ r.cpuids).0 (there b.core i a ea) in
-    let inner : same_cpuid b (part_of Core i) (part_of Core j) ≡ None = kind_none b Core (λ q. same_cpuid b (part_of Core i) q) j (none_both _ _ outer).0 (there b.core j c ec) in
+    let outer = kind_none b Core (λ p. first_part b (Core ∷ []) (λ q. same_cpuid b p q)) i (none_both _ _ r.cpuids).0 (slice_get_within b.core i a ea) in
+    let inner : same_cpuid b (part_of Core i) (part_of Core j) ≡ None = kind_none b Core (λ q. same_cpuid b (part_of Core i) q) j (none_both _ _ outer).0 (slice_get_within b.core j c ec) in
     let equal : eqb a.cpuid c.cpuid ≡ true = eq-eqb _ _ same in
     elim (cases_eq i j) [
       | inl e ↦ e
@@ -128,7 +123,7 @@ all_good part ((key, false) ∷ checks) e = absurd cc
 pub depths : (b : Board) → IsValid b → (i : ℕ) (row : UartRow) → slice_get b.uart i ≡ Some row → (8 ≤ row.read_depth) × (row.read_depth ≤ 32768) × (8 ≤ row.write_depth) × (row.write_depth ≤ 32768)
 unfolding number_fault uart_numbers
 depths b valid i row e =
-    let h : number_fault b (part_of Uart i) ≡ None = (keeps b valid Uart i (omega arith) (there b.uart i row e)).numbers in
+    let h : number_fault b (part_of Uart i) ≡ None = (keeps b valid Uart i (omega arith) (slice_get_within b.uart i row e)).numbers in
     let here : uart_numbers (part_of Uart i) row ≡ None = sym (ap (λ (o : Option UartRow). option_and_then (uart_numbers (part_of Uart i)) o) e) ∙ h in
     let checks : List (Key × Bool) =
     (keys.Base, is_base 2 row.base) ∷ (keys.Irq, is_irq row.irq) ∷ (keys.ReadDepth, is_between 8 32768 row.read_depth) ∷ (keys.WriteDepth, is_between 8 32768 row.write_depth) ∷ (keys.Input, leb (length row.input) 65536) ∷ []
@@ -142,7 +137,7 @@ depths b valid i row e =
 pub caches : (b : Board) → IsValid b → (i : ℕ) (row : CoreRow) → slice_get b.core i ≡ Some row → (is_cache_size row.dcache ≡ true) × (is_cache_size row.icache ≡ true)
 unfolding number_fault core_numbers
 caches b valid i row e =
-    let h : number_fault b (part_of Core i) ≡ None = (keeps b valid Core i (omega arith) (there b.core i row e)).numbers in
+    let h : number_fault b (part_of Core i) ≡ None = (keeps b valid Core i (omega arith) (slice_get_within b.core i row e)).numbers in
     let here : core_numbers (part_of Core i) row ≡ None = sym (ap (λ (o : Option CoreRow). option_and_then (core_numbers (part_of Core i)) o) e) ∙ h in
     let checks : List (Key × Bool) =
     (keys.At, is_place 32 row.at) ∷ (keys.Exception, is_place 4 row.exception) ∷ (keys.Dcache, is_cache_size row.dcache) ∷ (keys.Icache, is_cache_size row.icache) ∷ (keys.Sample, leb 2 row.sample) ∷ (keys.Evict, not (eqb row.evict 1)) ∷ []

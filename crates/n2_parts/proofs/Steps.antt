@@ -1,5 +1,5 @@
 -- One step of each loop over parts.
-use Rattle.std.proofs.Common.{◌≡◌, ℕ, suc, ◌+◌, ◌-◌, ◌<◌, ◌≤◌, List, length, get_or, drop, Option, Some, None, refl, ap, drop-cons, arith}
+use Rattle.std.proofs.Common.{◌≡◌, ℕ, zero, suc, ◌+◌, ◌-◌, ◌<◌, ◌≤◌, List, length, get_or, drop, Option, Some, None, refl, ap, drop-cons, arith}
 use Rattle.std.proofs.lemmas.List.{drop_all}
 use Rattle.n2_parts.specs.declared.board.Board.{Board}
 use Rattle.n2_parts.specs.declared.board.Part.{Part}
@@ -17,6 +17,13 @@ pub first_from-done : {F : Type 0} (f : ℕ → Option F) (i count : ℕ) → co
 unfolding first_from
 first_from-done f i count le =
     let k : count - i ≡ 0 = omega arith in rw k refl
+
+-- two functions that find the same at these numbers
+pub first_from-same : {F : Type 0} (f g : ℕ → Option F) (i n : ℕ) → ((k : ℕ) → i ≤ k → k < i + n → f k ≡ g k) → first_from f i n ≡ first_from g i n
+unfolding first_from
+first_from-same f g i zero same = refl
+first_from-same f g i (suc n) same =
+    rw (same i (omega arith) (omega arith), first_from-same f g (i + 1) n (λ k low high. same k (omega arith) (omega arith))) refl
 
 pub first_part-next : (b : Board) (f : Part → Option BoardFault) (kinds : List PartKind) (i : ℕ) (d : PartKind) → i < length kinds
     → first_part b (drop i kinds) f ≡ option_or (first_of_kind b (get_or kinds i d) f) (first_part b (drop (i + 1) kinds) f)

@@ -2,6 +2,7 @@
 use Rattle.std.proofs.Common.{◌≡◌, ℕ, suc, ◌+◌, ◌*◌, ◌^◌, ◌≤◌, Bool, true, ◌&&◌, nat_le, List, [], ◌∷◌, sum, sum_by, map, Option, Some, None, slice_get, refl, sym, ap, ◌∙◌, arith}
 use Rattle.std.specs.Prelude.{option_and_then}
 use Rattle.std.specs.List.{AllByRecursion}
+use Rattle.std.proofs.lemmas.Option.{slice_get_within}
 use Rattle.std.proofs.lemmas.Bool.{leb-true}
 use Rattle.std.proofs.lemmas.List.Sums.{sum-map, sum_by-cons}
 use Rattle.std.proofs.lemmas.Bool.Decides.{nat_tests}
@@ -15,7 +16,7 @@ use Rattle.n2_parts.specs.Numbers.{is_multiple, is_size, memory_numbers, number_
 use Rattle.n2_parts.specs.Valid.{counts, early_faults, late_faults, place_faults, totals, total_fault, first_fault, IsValid}
 use Rattle.n2_parts.specs.MemoryLines.{IsWholeLines, AreWholeLines, line_count}
 use Rattle.n2_parts.proofs.Small.{none_both, none_good}
-use Rattle.n2_parts.proofs.Sound.{keeps, there, all_good}
+use Rattle.n2_parts.proofs.Sound.{keeps, all_good}
 
 -- what holds at each number holds of all
 all_from_each : {A : Type 0} (P : A → Type 0) (rows : List A) → ((i : ℕ) (row : A) → slice_get rows i ≡ Some row → P row) → AllByRecursion P rows
@@ -28,7 +29,7 @@ in_words row base size = grind (arith, nat_tests)
 whole_row : (b : Board) → IsValid b → (i : ℕ) (row : MemoryRow) → slice_get b.memory i ≡ Some row → IsWholeLines row
 unfolding number_fault memory_numbers
 whole_row b valid i row e =
-    let h : number_fault b (part_of Memory i) ≡ None = (keeps b valid Memory i (omega arith) (there b.memory i row e)).numbers in
+    let h : number_fault b (part_of Memory i) ≡ None = (keeps b valid Memory i (omega arith) (slice_get_within b.memory i row e)).numbers in
     let here : memory_numbers (part_of Memory i) row ≡ None = sym (ap (λ (o : Option MemoryRow). option_and_then (memory_numbers (part_of Memory i)) o) e) ∙ h in
     let checks : List (Key × Bool) = (keys.Base, is_multiple 32 row.base) ∷ (keys.Size, is_size row.size && nat_le (row.base + row.size) (2 ^ 31)) ∷ [] in
     let good = all_good (part_of Memory i) checks here in

@@ -101,6 +101,10 @@ part_fault b part = parts_fault b part part.kind part.index
 abbrev pub bytes_from : ℕ → ℕ → Span
 bytes_from from size = record { from = from; end = from + size }
 
+-- a span holds a byte, or a line
+abbrev pub holds : Span → ℕ → Bool
+holds a point = nat_le a.from point && nat_lt point a.end
+
 -- two spans share a byte
 abbrev pub share : Span → Span → Bool
 share a b = nat_lt (max a.from b.from) (min a.end b.end)

@@ -152,6 +152,13 @@ impl Copied for ScriptRow {
     }
 }
 
+/// An equal list of memories.
+pub fn copy_memories(alloc: Global, memories: &[MemoryRow]) -> Result<Items<MemoryRow>, NoMemory>
+    ensures { IfOk result (λ copies. copies ≡ memories.now) }
+{
+    all(alloc, memories)
+}
+
 impl Board {
     /// An equal board.
     pub fn copy(&self, alloc: Global) -> Result<Board, NoMemory>

@@ -16,6 +16,7 @@ pub use board::{
     Board, BoardFault, CoreRow, DeviceEvent, DumpRow, Key, MailboxRow, MemoryRow, MutexRow, Part,
     PartKind, RegionClass, RegionRow, ScriptRow, TimerRow, UartRow,
 };
+pub use copying::copy_memories;
 pub use lines::{line_count, line_place};
 pub use parts::{ARRAYS, DEVICES, count_of, row};
 pub use spans::{IN_PLACES, Span, Spans, bytes_from, is_inside, spans_of};

@@ -48,6 +48,16 @@ fn one(first: Span) -> Spans
     }
 }
 
+impl Span {
+    /// Whether a span holds a byte, or a line.
+    #[inline(always)]
+    pub fn holds(self, point: u64) -> bool
+        ensures { result ≡ spec.holds self point }
+    {
+        self.from <= point && point < self.end
+    }
+}
+
 /// Whether two spans share a byte.
 fn share(a: Span, b: Span) -> bool
     ensures { result ≡ spec.share a b }

@@ -1,7 +1,9 @@
 -- The commands of the tool, by their words.
-use Rattle.std.specs.Prelude.{ℕ, List, [], ◌∷◌, Bool, true, false, Option, Some, None, ◌==◌, ◌||◌, if◌then◌else◌, codes}
+use Rattle.std.specs.Prelude.{ℕ, List, [], ◌∷◌, Bool, true, false, Option, Some, None, ◌||◌, if◌then◌else◌, codes}
 use Rattle.std.specs.Str.{bytes_eq}
-use Rattle.n2_text.specs.Fields.{numeral, at_most}
+use Rattle.n2_text.specs.Fields.{numeral, at_most, from_one}
+use Rattle.n2_top.specs.declared.command.Command.{Command as Borrowed}
+use Rattle.n2_top.specs.declared.command.Command.TheVariants as borrowed
 
 -- what the words ask for
 pub data Command : Type 0 where
@@ -12,13 +14,15 @@ pub data Command : Type 0 where
   -- a file on the plain board for so many acts
   Plain : (file : List ℕ) (steps : ℕ) → Command
 
-abbrev pub not_zero : Option ℕ → Option ℕ
-not_zero None = None
-not_zero (Some n) = if n == 0 then None else Some n
+-- what a command that borrows its words stands for
+abbrev pub command_by : Borrowed → Command
+command_by borrowed.Faulty = Faulty
+command_by borrowed.Unbuilt = Unbuilt
+command_by (borrowed.Plain file steps) = Plain file.now steps
 
 -- a number of acts, from 1 to 1,000,000
 abbrev pub steps_of : List ℕ → Option ℕ
-steps_of word = not_zero (at_most 1000000 (numeral word))
+steps_of word = from_one (at_most 1000000 (numeral word))
 
 abbrev pub plain_command : List ℕ → Option ℕ → Command
 plain_command file None = Faulty
@@ -44,5 +48,12 @@ command_of words = Faulty
 
 -- a command that reads files
 abbrev pub reads_files : Command → Bool
+reads_files Faulty = false
+reads_files Unbuilt = false
 reads_files (Plain file steps) = true
-reads_files _ = false
+
+-- a command whose run is written to the journal
+abbrev pub writes_journal : Command → Bool
+writes_journal Faulty = false
+writes_journal Unbuilt = false
+writes_journal (Plain file steps) = false

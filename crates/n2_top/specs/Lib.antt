@@ -1,3 +1,6 @@
 pub mod Commands
-pub mod Rows
+pub mod Refusals
+pub mod Asked
+pub mod Plain
 pub mod Answers
+pub mod Calls

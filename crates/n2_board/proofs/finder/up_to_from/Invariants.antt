@@ -1,5 +1,5 @@
 use Rattle.std.proofs.Common.{◌-◌, length}
-use Rattle.n2_board.specs.Joining.{AreUpTo}
+use Rattle.n2_board.proofs.Finding.{AreUpTo}
 use Rattle.n2_board.proofs.finder.up_to_from.Given as goal
 
 abbrev pub invariant-loop-n : goal.invariant-loop-n

@@ -1,0 +1,81 @@
+-- What is refused: the statuses and the rows that are written.
+use Rattle.std.specs.Prelude.{ℕ, List, [], ◌∷◌, ◌++◌, codes, decimal}
+use Rattle.n2_text.specs.Fields.{word_text}
+use Rattle.n2_elf.specs.Names.{fault_text}
+use Rattle.n2_board.specs.declared.placement.OpenFault.{OpenFault}
+use Rattle.n2_board.specs.declared.placement.OpenFault.TheVariants.{Outside, EntryOutside, Overlap, NoMemory}
+use Rattle.n2_top.specs.declared.refusal.Role.{Role}
+use Rattle.n2_top.specs.declared.refusal.Role.TheVariants as roles
+use Rattle.n2_top.specs.declared.refusal.Refusal.{Refusal}
+use Rattle.n2_top.specs.declared.refusal.Refusal.TheVariants.{Usage, UnbuiltCommand, UnbuiltWord, Absent, TooLong, Image, Misfit}
+
+-- a file has at most so many bytes
+abbrev pub limit_of : Role → ℕ
+limit_of roles.Board = 262144
+limit_of (roles.Image core) = 16777216
+limit_of roles.Journal = 268435456
+limit_of roles.Source = 1048576
+limit_of roles.Order = 4194304
+
+-- how the rows on a file begin
+abbrev pub role_text : Role → List ℕ
+role_text roles.Board = codes "board"
+role_text (roles.Image core) = codes "image " ++ decimal core
+role_text roles.Journal = codes "journal"
+role_text roles.Source = codes "source"
+role_text roles.Order = codes "order"
+
+-- the status where a file is absent, too long or refused
+abbrev pub role_status : Role → ℕ
+role_status roles.Board = 4
+role_status (roles.Image core) = 5
+role_status roles.Journal = 9
+role_status roles.Source = 10
+role_status roles.Order = 11
+
+abbrev pub status_of : Refusal → ℕ
+status_of Usage = 3
+status_of UnbuiltCommand = 12
+status_of (UnbuiltWord pc word) = 12
+status_of (Absent role) = role_status role
+status_of (TooLong role) = role_status role
+status_of (Image core fault) = 5
+status_of (Misfit fault) = 5
+
+unfoldable pub usage : List ℕ
+usage = codes "usage: n2_tool plain FILE STEPS | step BOARD ORDER | replay BOARD JOURNAL | flat BOARD JOURNAL | asm FILE | asmhal FILE | dis FILE | bench N"
+
+-- two words behind a name
+abbrev pub words_text : List ℕ → ℕ → ℕ → List ℕ
+words_text name a b = name ++ word_text a ++ codes " " ++ word_text b
+
+-- what is wrong with a file
+abbrev pub file_text : Role → List ℕ → List ℕ
+file_text role cause = role_text role ++ codes " " ++ cause
+
+-- an entry that is not in a memory; two numbers of cores behind a name
+abbrev pub entry_text : ℕ → List ℕ
+entry_text core = codes "entry " ++ decimal core ++ codes " outside"
+
+abbrev pub pair_text : List ℕ → ℕ → ℕ → List ℕ
+pair_text name a b = name ++ decimal a ++ codes " " ++ decimal b
+
+-- the first thing that does not fit the board
+unfoldable pub misfit_text : OpenFault → List ℕ
+misfit_text (Outside core) = file_text (roles.Image core) (codes "outside")
+misfit_text (EntryOutside core) = entry_text core
+misfit_text (Overlap a b) = pair_text (codes "images overlap ") a b
+misfit_text NoMemory = codes "images nomemory"
+
+unfoldable pub text_of : Refusal → List ℕ
+text_of Usage = usage
+text_of UnbuiltCommand = codes "unbuilt command"
+text_of (UnbuiltWord pc word) = words_text (codes "unbuilt word ") pc word
+text_of (Absent role) = file_text role (codes "absent")
+text_of (TooLong role) = file_text role (codes "too long")
+text_of (Image core fault) = file_text (roles.Image core) (fault_text fault)
+text_of (Misfit fault) = misfit_text fault
+
+-- a row ends with a line feed
+abbrev pub row_of : Refusal → List ℕ
+row_of refusal = text_of refusal ++ 10 ∷ []

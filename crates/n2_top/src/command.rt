@@ -1,0 +1,67 @@
+//! The commands of the tool, by their words.
+
+ghost use Rattle.std.specs.Prelude.{◌≡◌, map, string_bytes};
+ghost use Rattle.n2_top.specs.Commands as spec;
+
+use n2_text::numeral_up_to;
+
+/// What the words of a command line ask for.
+#[derive(Clone, Copy, Debug)]
+pub enum Command<'a> {
+    /// None of the table.
+    Faulty,
+    /// One that is not built yet.
+    Unbuilt,
+    /// `plain FILE STEPS`: a file on the plain board for so many acts.
+    Plain { file: &'a str, steps: u32 },
+}
+
+/// `plain` makes at most so many acts.
+const STEPS: u64 = 1_000_000;
+
+/// A number of acts.
+fn steps_in(word: &str) -> Option<u32>
+    ensures { result ≡ spec.steps_of word.now }
+{
+    match numeral_up_to(STEPS, word.as_bytes())? {
+        0 => None,
+        steps => Some(steps as u32),
+    }
+}
+
+/// A command of three words.
+#[tactic(auto, unfolding(crate::specs::Commands::three_words))]
+fn in_three<'a>(name: &str, first: &'a str, second: &str) -> Command<'a>
+    ensures { spec.command_by result ≡ spec.three_words name.now first.now second.now }
+{
+    match name {
+        "plain" => match steps_in(second) {
+            Some(steps) => Command::Plain { file: first, steps },
+            None => Command::Faulty,
+        },
+        "step" | "replay" | "flat" => Command::Unbuilt,
+        _ => Command::Faulty,
+    }
+}
+
+/// A command of two words.
+#[tactic(auto, unfolding(crate::specs::Commands::two_words))]
+fn in_two<'a>(name: &str) -> Command<'a>
+    ensures { spec.command_by result ≡ spec.two_words name.now }
+{
+    match name {
+        "asm" | "asmhal" | "dis" | "bench" => Command::Unbuilt,
+        _ => Command::Faulty,
+    }
+}
+
+/// What some words ask for.
+pub fn command_in(words: &[String]) -> Command<'_>
+    ensures { spec.command_by result ≡ spec.command_of (map string_bytes words.now) }
+{
+    match words {
+        [name, first, second] => in_three(name.as_str(), first.as_str(), second.as_str()),
+        [name, _first] => in_two(name.as_str()),
+        _ => Command::Faulty,
+    }
+}

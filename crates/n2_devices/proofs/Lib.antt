@@ -1,0 +1,3 @@
+pub mod Irqs
+pub mod Kept
+pub mod Shown

@@ -1,6 +1,6 @@
 -- The board that a text's tree stands for, where nothing is wrong with the tree.
-use Rattle.std.specs.Prelude.{ℕ, List, [], ◌∷◌, ◌++◌, Option, Some, option_and_then, option_map, option_to_list, unwrap_or}
-use Rattle.toml.specs.Data.{Data, Items, no_items, item, Members, as_str, as_array, as_table}
+use Rattle.std.specs.Prelude.{ℕ, List, [], map, filter_map, Option, Some, option_and_then, option_map, unwrap_or}
+use Rattle.toml.specs.Data.{Data, Members, as_str, as_table}
 use Rattle.n2_parts.specs.declared.board.Board.{Board}
 use Rattle.n2_parts.specs.declared.board.MemoryRow.{MemoryRow}
 use Rattle.n2_parts.specs.declared.board.CoreRow.{CoreRow}
@@ -20,23 +20,20 @@ use Rattle.n2_parts.specs.declared.board.PartKind.TheVariants as kinds
 use Rattle.n2_parts.specs.declared.board.Key.{Key}
 use Rattle.n2_parts.specs.declared.board.Key.TheVariants as keys
 use Rattle.n2_boardtext.specs.declared.keys.Sort.{Sort}
-use Rattle.n2_boardtext.specs.declared.keys.Sort.TheVariants.{Number, Name, Names}
+use Rattle.n2_boardtext.specs.declared.keys.Sort.TheVariants.{Number}
 use Rattle.n2_boardtext.specs.declared.keys.Word.{Word}
 use Rattle.n2_boardtext.specs.declared.keys.Word.TheVariants as words
+use Rattle.n2_boardtext.specs.declared.keys.Named.{Named}
+use Rattle.n2_boardtext.specs.declared.keys.Named.TheVariants as arrays
 use Rattle.n2_boardtext.specs.Keys.{sort_of, default_of}
-use Rattle.n2_boardtext.specs.Values.{value_at, number_in, text_at, word_at, items_in, items_at, index_of}
+use Rattle.n2_boardtext.specs.Values.{value_at, number_in, text_at, word_at, values_of, items_at, index_of}
 
 -- ---- the value of a key
 
--- the greatest number of a sort, and the array whose parts it names
+-- the greatest number of a sort
 abbrev pub most_of : Sort → ℕ
 most_of (Number most) = most
 most_of _ = 0
-
-abbrev pub kind_of : Sort → PartKind
-kind_of (Name kind) = kind
-kind_of (Names kind) = kind
-kind_of _ = kinds.Top
 
 -- the number of a key, if it is given; or else its default
 abbrev pub given_number : Key → Members → Option ℕ
@@ -49,24 +46,13 @@ number_at key t = unwrap_or (given_number key t) (default_of key)
 abbrev pub text_or_empty : Key → Members → List ℕ
 text_or_empty key t = unwrap_or (text_at key t) []
 
--- the number of the part that a key names
-abbrev pub part_in : PartKind → Members → Option (List ℕ) → ℕ
-part_in kind tree name = unwrap_or (option_and_then (index_of kind tree) name) 0
-
-abbrev pub part_at : Key → Members → Members → ℕ
-part_at key tree t = part_in (kind_of (sort_of key)) tree (text_at key t)
+-- the number of the part that a name names
+abbrev pub part_in : Named → Members → Option (List ℕ) → ℕ
+part_in array tree name = unwrap_or (option_and_then (index_of array tree) name) 0
 
 -- the numbers of the parts that a list of names names
-unfoldable pub parts_in : PartKind → Members → Items → List ℕ
-parts_in kind tree no_items = []
-parts_in kind tree (item d ds) = part_in kind tree (as_str d) ∷ parts_in kind tree ds
-
--- the values of a key that holds a list
-abbrev pub list_at : Key → Members → Items
-list_at key t = items_in (option_and_then as_array (value_at key t))
-
-abbrev pub parts_at : Key → Members → Members → List ℕ
-parts_at key tree t = parts_in (kind_of (sort_of key)) tree (list_at key t)
+abbrev pub parts_in : Named → Members → List Data → List ℕ
+parts_in array tree ds = map (λ d. part_in array tree (as_str d)) ds
 
 -- ---- the row of a table of a tree
 
@@ -123,8 +109,8 @@ uart_row tree t = record {
 -- the class of a region, by its word
 abbrev pub class_by : Members → Members → Option Word → RegionClass
 class_by tree t (Some words.Private) = classes.Private (number_at keys.Core t)
-class_by tree t (Some words.Mutex) = classes.Mutex (part_at keys.Mutex tree t)
-class_by tree t (Some words.Passed) = classes.Passed (number_at keys.Holder t) (parts_at keys.Mailboxes tree t)
+class_by tree t (Some words.Mutex) = classes.Mutex (part_in arrays.Mutex tree (text_at keys.Mutex t))
+class_by tree t (Some words.Passed) = classes.Passed (number_at keys.Holder t) (parts_in arrays.Mailbox tree (values_of (value_at keys.Mailboxes t)))
 class_by tree t (Some words.Uncached) = classes.Uncached
 class_by tree t _ = classes.Code
 
@@ -141,8 +127,8 @@ dump_row tree t = record { at = number_at keys.At t; lines = number_at keys.Line
 
 -- the event of a row of the script, by its word
 abbrev pub event_by : Members → Members → Option Word → DeviceEvent
-event_by tree t (Some words.Receive) = events.Receive (part_at keys.Uart tree t)
-event_by tree t (Some words.Drain) = events.Drain (part_at keys.Uart tree t)
+event_by tree t (Some words.Receive) = events.Receive (part_in arrays.Uart tree (text_at keys.Uart t))
+event_by tree t (Some words.Drain) = events.Drain (part_in arrays.Uart tree (text_at keys.Uart t))
 event_by tree t _ = events.Tick (number_at keys.N t)
 
 abbrev pub script_row : Members → Members → ScriptRow
@@ -150,13 +136,9 @@ script_row tree t = record { event = event_by tree t (word_at keys.Do t); times 
 
 -- ---- the board of a tree
 
--- the rows of the tables among some values
-abbrev pub rows_of : {A : Type 0} → (Members → A) → Data → List A
-rows_of row d = option_to_list (option_map row (as_table d))
-
-unfoldable pub rows_in : {A : Type 0} → (Members → A) → Items → List A
-rows_in row no_items = []
-rows_in row (item d ds) = rows_of row d ++ rows_in row ds
+-- the rows of the tables of an array
+abbrev pub rows_in : {A : Type 0} → (Members → A) → List Data → List A
+rows_in row ds = filter_map (λ d. option_map row (as_table d)) ds
 
 abbrev pub rows_at : {A : Type 0} → PartKind → (Members → Members → A) → Members → List A
 rows_at kind row tree = rows_in (row tree) (items_at kind tree)

@@ -1,5 +1,6 @@
 -- The keys that each part has in a board's text: the table that a text is read by.
-use Rattle.std.specs.Prelude.{ℕ, List, [], ◌∷◌, ◌++◌, Option, Some, None, codes, if◌then◌else◌}
+use Rattle.std.specs.Prelude.{ℕ, List, [], ◌∷◌, Option, codes, find}
+use Rattle.std.specs.Option.{option_map_or}
 use Rattle.std.specs.Str.{bytes_eq}
 use Rattle.n2_parts.specs.declared.board.PartKind.{PartKind}
 use Rattle.n2_parts.specs.declared.board.PartKind.TheVariants as kinds
@@ -9,6 +10,8 @@ use Rattle.n2_boardtext.specs.declared.keys.Sort.{Sort}
 use Rattle.n2_boardtext.specs.declared.keys.Sort.TheVariants.{Number, Text, Choice, Name, Names}
 use Rattle.n2_boardtext.specs.declared.keys.Word.{Word}
 use Rattle.n2_boardtext.specs.declared.keys.Word.TheVariants as words
+use Rattle.n2_boardtext.specs.declared.keys.Named.{Named}
+use Rattle.n2_boardtext.specs.declared.keys.Named.TheVariants as arrays
 use Rattle.n2_boardtext.specs.declared.keys.Entry.{Entry}
 use Rattle.n2_boardtext.specs.declared.keys.Entry.TheVariants.{Must, May}
 
@@ -21,10 +24,16 @@ sort_of keys.Name = Text
 sort_of keys.Input = Text
 sort_of keys.Class = Choice
 sort_of keys.Do = Choice
-sort_of keys.Mutex = Name kinds.Mutex
-sort_of keys.Mailboxes = Names kinds.Mailbox
-sort_of keys.Uart = Name kinds.Uart
+sort_of keys.Mutex = Name arrays.Mutex
+sort_of keys.Mailboxes = Names arrays.Mailbox
+sort_of keys.Uart = Name arrays.Uart
 sort_of _ = Number 4294967295
+
+-- the arrays whose parts are named elsewhere
+abbrev pub kind_of : Named → PartKind
+kind_of arrays.Mutex = kinds.Mutex
+kind_of arrays.Mailbox = kinds.Mailbox
+kind_of arrays.Uart = kinds.Uart
 
 -- the number of a key that is not given
 abbrev pub default_of : Key → ℕ
@@ -39,31 +48,11 @@ default_of keys.WriteDepth = 64
 default_of keys.Times = 1
 default_of _ = 0
 
--- the keys of a region of a class, in order
-abbrev pub class_entries : Option Word → List Entry
-class_entries (Some words.Private) = Must keys.Core ∷ []
-class_entries (Some words.Mutex) = Must keys.Mutex ∷ []
-class_entries (Some words.Passed) = Must keys.Holder ∷ Must keys.Mailboxes ∷ []
-class_entries _ = []
-
-abbrev pub region_entries : Option Word → List Entry
-region_entries word = Must keys.Name ∷ Must keys.Base ∷ Must keys.Size ∷ Must keys.Class ∷ class_entries word
-
--- the keys of an event of the script, in order
-abbrev pub event_entries : Option Word → List Entry
-event_entries (Some words.Tick) = Must keys.N ∷ []
-event_entries (Some words.Receive) = Must keys.Uart ∷ []
-event_entries (Some words.Drain) = Must keys.Uart ∷ []
-event_entries _ = []
-
-abbrev pub script_entries : Option Word → List Entry
-script_entries word = Must keys.Do ∷ (event_entries word ++ May keys.Times ∷ [])
-
--- the keys of a part of an array, in order; those of regions and of the script by their word
-abbrev pub entries_of : PartKind → Option Word → List Entry
-entries_of kinds.Top word = May keys.Turns ∷ May keys.Journal ∷ []
-entries_of kinds.Memory word = Must keys.Base ∷ Must keys.Size ∷ []
-entries_of kinds.Core word =
+-- the keys of a part of an array, in order: first its own ones, then those of its word, then the rest
+abbrev pub first_entries : PartKind → List Entry
+first_entries kinds.Top = May keys.Turns ∷ May keys.Journal ∷ []
+first_entries kinds.Memory = Must keys.Base ∷ Must keys.Size ∷ []
+first_entries kinds.Core =
     Must keys.Cpuid
     ∷ Must keys.Image
     ∷ May keys.At
@@ -74,8 +63,8 @@ entries_of kinds.Core word =
     ∷ May keys.Sample
     ∷ May keys.Evict
     ∷ []
-entries_of kinds.Mutex word = Must keys.Name ∷ Must keys.Base ∷ []
-entries_of kinds.Mailbox word =
+first_entries kinds.Mutex = Must keys.Name ∷ Must keys.Base ∷ []
+first_entries kinds.Mailbox =
     Must keys.Name
     ∷ Must keys.Send
     ∷ Must keys.Receive
@@ -84,8 +73,8 @@ entries_of kinds.Mailbox word =
     ∷ May keys.SendIrq
     ∷ May keys.ReceiveIrq
     ∷ []
-entries_of kinds.Timer word = Must keys.Name ∷ Must keys.Base ∷ May keys.Core ∷ May keys.Irq ∷ May keys.Period ∷ []
-entries_of kinds.Uart word =
+first_entries kinds.Timer = Must keys.Name ∷ Must keys.Base ∷ May keys.Core ∷ May keys.Irq ∷ May keys.Period ∷ []
+first_entries kinds.Uart =
     Must keys.Name
     ∷ Must keys.Base
     ∷ May keys.Core
@@ -94,19 +83,33 @@ entries_of kinds.Uart word =
     ∷ May keys.WriteDepth
     ∷ May keys.Input
     ∷ []
-entries_of kinds.Region word = region_entries word
-entries_of kinds.Dump word = Must keys.At ∷ Must keys.Lines ∷ []
-entries_of kinds.Script word = script_entries word
+first_entries kinds.Region = Must keys.Name ∷ Must keys.Base ∷ Must keys.Size ∷ Must keys.Class ∷ []
+first_entries kinds.Dump = Must keys.At ∷ Must keys.Lines ∷ []
+first_entries kinds.Script = Must keys.Do ∷ []
 
--- where the word is not known, no key of any word is unknown
-abbrev pub wordless_entries : PartKind → List Entry
-wordless_entries kinds.Region = region_entries None ++ Must keys.Core ∷ Must keys.Mutex ∷ Must keys.Holder ∷ Must keys.Mailboxes ∷ []
-wordless_entries kinds.Script = Must keys.Do ∷ Must keys.N ∷ Must keys.Uart ∷ May keys.Times ∷ []
-wordless_entries kind = entries_of kind None
+-- the word of a region is its class, that of a row of the script its event
+abbrev pub word_entries : Word → List Entry
+word_entries words.Private = Must keys.Core ∷ []
+word_entries words.Mutex = Must keys.Mutex ∷ []
+word_entries words.Passed = Must keys.Holder ∷ Must keys.Mailboxes ∷ []
+word_entries words.Tick = Must keys.N ∷ []
+word_entries words.Receive = Must keys.Uart ∷ []
+word_entries words.Drain = Must keys.Uart ∷ []
+word_entries _ = []
 
-abbrev pub known_entries : PartKind → Option Word → List Entry
-known_entries kind (Some word) = entries_of kind (Some word)
-known_entries kind None = wordless_entries kind
+abbrev pub last_entries : PartKind → List Entry
+last_entries kinds.Script = May keys.Times ∷ []
+last_entries _ = []
+
+-- the keys that some word has
+abbrev pub any_entries : PartKind → List Entry
+any_entries kinds.Region = Must keys.Core ∷ Must keys.Mutex ∷ Must keys.Holder ∷ Must keys.Mailboxes ∷ []
+any_entries kinds.Script = Must keys.N ∷ Must keys.Uart ∷ []
+any_entries _ = []
+
+-- the keys of a word, or these where the word is not known
+abbrev pub entries_by : Option Word → List Entry → List Entry
+entries_by word others = option_map_or word_entries word others
 
 -- the key that a part has first
 abbrev pub first_key : PartKind → Key
@@ -137,10 +140,6 @@ word_name words.Tick = codes "tick"
 word_name words.Receive = codes "receive"
 word_name words.Drain = codes "drain"
 
--- the word that a text is, if it is one of some
-abbrev pub word_among : List ℕ → List Word → Option Word
-word_among text [] = None
-word_among text (word ∷ words) = if bytes_eq text (word_name word) then Some word else word_among text words
-
+-- the word of a key that a text is, if it is one
 abbrev pub word_of : Key → List ℕ → Option Word
-word_of key text = word_among text (words_of key)
+word_of key text = find (λ word. bytes_eq text (word_name word)) (words_of key)

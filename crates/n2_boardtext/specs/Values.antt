@@ -1,5 +1,6 @@
 -- What the tree of a text has at a key.
-use Rattle.std.specs.Prelude.{ℕ, ◌+◌, ◌<◌, ◌^◌, ℤ, pos, negsuc, List, Bool, false, Option, Some, None, option_and_then, nat_le, if◌then◌else◌}
+use Rattle.std.specs.Prelude.{ℕ, ℤ, pos, negsuc, List, [], ◌∷◌, Bool, false, Option, Some, None, option_and_then, nat_le, if◌then◌else◌}
+use Rattle.std.specs.List.{position_from}
 use Rattle.std.specs.Option.{option_map_or}
 use Rattle.std.specs.Str.{bytes_eq}
 use Rattle.toml.specs.Data.{Data, Items, no_items, item, Members, get_member, as_integer, as_str, as_array, as_table}
@@ -8,8 +9,9 @@ use Rattle.n2_parts.specs.declared.board.PartKind.TheVariants as kinds
 use Rattle.n2_parts.specs.declared.board.Key.{Key}
 use Rattle.n2_parts.specs.declared.board.Key.TheVariants as keys
 use Rattle.n2_boardtext.specs.declared.keys.Word.{Word}
+use Rattle.n2_boardtext.specs.declared.keys.Named.{Named}
 use Rattle.n2_boardtext.specs.Words.{kind_name, key_name}
-use Rattle.n2_boardtext.specs.Keys.{word_of}
+use Rattle.n2_boardtext.specs.Keys.{kind_of, word_of}
 
 -- the value of a key
 abbrev pub value_at : Key → Members → Option Data
@@ -41,32 +43,26 @@ word_in kinds.Region t = word_at keys.Class t
 word_in kinds.Script t = word_at keys.Do t
 word_in _ t = None
 
--- the values of an array; none where the text has no such array
-abbrev pub items_in : Option Items → Items
-items_in (Some ds) = ds
-items_in None = no_items
+-- the values of a list
+abbrev pub list_of : Items → List Data
+list_of no_items = []
+list_of (item d ds) = d ∷ list_of ds
 
-abbrev pub items_at : PartKind → Members → Items
-items_at kind tree = items_in (option_and_then as_array (array_at kind tree))
+-- the values of a list, if one is given; or else none
+abbrev pub values_of : Option Data → List Data
+values_of given = option_map_or list_of (option_and_then as_array given) []
 
--- a table of this name
+-- the values of an array
+abbrev pub items_at : PartKind → Members → List Data
+items_at kind tree = values_of (array_at kind tree)
+
+-- the name of a part
+abbrev pub name_of : Data → Option (List ℕ)
+name_of d = option_and_then (text_at keys.Name) (as_table d)
+
 abbrev pub is_named : List ℕ → Data → Bool
-is_named name d = option_map_or (bytes_eq name) (option_and_then (text_at keys.Name) (as_table d)) false
+is_named name d = option_map_or (λ held. bytes_eq held name) (name_of d) false
 
--- the number of the first table of this name, counted from i
-unfoldable pub index_from : List ℕ → ℕ → Items → Option ℕ
-index_from name i no_items = None
-index_from name i (item d ds) = if is_named name d then Some i else index_from name (i + 1) ds
-
--- the number of the part of an array that has this name
-abbrev pub index_of : PartKind → Members → List ℕ → Option ℕ
-index_of kind tree name = index_from name 0 (items_at kind tree)
-
--- how many values
-abbrev pub count : Items → ℕ
-count no_items = 0
-count (item d ds) = count ds + 1
-
--- no array has so many parts that a part's number is no word
-abbrev pub IsFew : Members → Type 0
-IsFew tree = (kind : PartKind) → count (items_at kind tree) < 2 ^ 32
+-- the number of the first part of an array that has this name
+abbrev pub index_of : Named → Members → List ℕ → Option ℕ
+index_of array tree name = position_from (is_named name) 0 (items_at (kind_of array) tree)

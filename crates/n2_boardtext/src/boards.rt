@@ -1,16 +1,15 @@
 //! The board that a text's tree stands for, where nothing is wrong with the tree.
 
-ghost use Rattle.std.specs.Prelude.{◌≡◌, ◌<◌, ◌≤◌, ◌^◌, ◌++◌, IfOk, IfSome, OnOk, option_map, option_copied};
+ghost use Rattle.std.specs.Prelude.{◌≡◌, ◌<◌, ◌≤◌, ◌^◌, [], ◌∷◌, ◌++◌, IfOk, IfSome, OnOk, map, option_copied};
 ghost use Rattle.toml.specs.Data.{Members};
-ghost use Rattle.toml.specs.View.{view, table_view, items_view};
+ghost use Rattle.toml.specs.View.{view, table_view};
 ghost use Rattle.n2_boardtext.specs.Keys as keys;
-ghost use Rattle.n2_boardtext.specs.Values as values;
-ghost use Rattle.n2_boardtext.specs.Values.{IsFew};
 ghost use Rattle.n2_boardtext.specs.Boards as spec;
 
-use crate::keys::{Sort, Word, default_of, sort_of};
-use crate::values::{index_of, items_at, number_in, text_at, value_at, word_at};
-use n2_board::{
+use crate::document::Document;
+use crate::keys::{Named, Sort, Word, default_of, sort_of};
+use crate::values::{items_at, number_in, text_at, value_at, values_of, word_at};
+use n2_parts::{
     Board, CoreRow, DeviceEvent, DumpRow, Key, MailboxRow, MemoryRow, MutexRow, PartKind,
     RegionClass, RegionRow, ScriptRow, TimerRow, UartRow,
 };
@@ -29,26 +28,12 @@ fn most_of(sort: Sort) -> u64
     }
 }
 
-/// The array whose parts a sort names.
-fn kind_of(sort: Sort) -> PartKind
-    ensures { result ≡ spec.kind_of sort }
-{
-    match sort {
-        Sort::Name(kind) => kind,
-        Sort::Names(kind) => kind,
-        _ => PartKind::Top,
-    }
-}
-
 /// The number of a key, if it is given.
 fn given_number(table: &Table, key: Key) -> Option<u64>
     ensures value { result ≡ spec.given_number key (table_view table.now) }
     ensures small { IfSome result (λ n. n ≤ spec.most_of (keys.sort_of key)) }
 {
-    match value_at(table, key) {
-        Some(value) => number_in(most_of(sort_of(key)), value),
-        None => None,
-    }
+    number_in(most_of(sort_of(key)), value_at(table, key)?)
 }
 
 /// The number of a key, or else its default.
@@ -67,20 +52,14 @@ fn optional_at(table: &Table, key: Key) -> Option<u32>
     requires { spec.most_of (keys.sort_of key) < 2 ^ 32 }
     ensures { result ≡ spec.given_number key (table_view table.now) }
 {
-    match given_number(table, key) {
-        Some(n) => Some(n as u32),
-        None => None,
-    }
+    Some(given_number(table, key)? as u32)
 }
 
 /// The number of turns.
 fn turns_at(tree: &Table) -> u64
     ensures { result ≡ spec.number_at Key.Turns (table_view tree.now) }
 {
-    match given_number(tree, Key::Turns) {
-        Some(n) => n,
-        None => u64::from(default_of(Key::Turns)),
-    }
+    given_number(tree, Key::Turns).unwrap_or(u64::from(default_of(Key::Turns)))
 }
 
 /// The cpuid of a core.
@@ -97,71 +76,33 @@ fn cpuid_at(table: &Table) -> u16
 fn text_of(alloc: Global, table: &Table, key: Key) -> Result<Text, NoMemory>
     ensures { IfOk result (λ text. text ≡ spec.text_or_empty key (table_view table.now)) }
 {
-    match text_at(table, key) {
-        Some(text) => Text::from_str(alloc, text),
-        None => Text::from_str(alloc, ""),
-    }
+    Text::from_str(alloc, text_at(table, key).unwrap_or(""))
 }
 
 /// The number of the part of a name.
-fn part_in(tree: &Table, kind: PartKind, name: Option<&str>) -> u32
-    requires { IsFew (table_view tree.now) }
-    ensures { result ≡ spec.part_in kind (table_view tree.now) (option_copied name.entry) }
+fn part_in(document: &Document<'_>, array: Named, name: Option<&str>) -> u32
+    ensures { result ≡ spec.part_in array (table_view document.now.tree.now) (option_copied name.entry) }
 {
     match name {
-        Some(name) => match index_of(tree, kind, name) {
-            Some(i) => i as u32,
-            None => 0,
-        },
+        Some(name) => document.index_of(array, name).unwrap_or(0),
         None => 0,
     }
 }
 
-/// The number of the part that a key names.
-fn part_at(tree: &Table, table: &Table, key: Key) -> u32
-    requires { IsFew (table_view tree.now) }
-    ensures { result ≡ spec.part_at key (table_view tree.now) (table_view table.now) }
-{
-    part_in(tree, kind_of(sort_of(key)), text_at(table, key))
-}
-
 /// The numbers of the parts of some names.
-#[tactic(auto, using(crate::proofs::Steps::item_steps), unfolding(crate::specs::Boards::parts_in))]
 fn parts_in(
     alloc: Global,
-    tree: &Table,
-    kind: PartKind,
+    document: &Document<'_>,
+    array: Named,
     items: &[Value],
 ) -> Result<Items<u32>, NoMemory>
-    requires { IsFew (table_view tree.now) }
-    ensures { IfOk result (λ parts. parts ≡ spec.parts_in kind (table_view tree.now) (items_view items.now)) }
+    ensures { IfOk result (λ parts. parts ≡ spec.parts_in array (table_view document.now.tree.now) (map view items.now)) }
 {
     let mut parts = Items::new(alloc);
     for item in items {
-        parts.push(part_in(tree, kind, item.as_str()))?;
+        parts.push(part_in(document, array, item.as_str()))?;
     }
     Ok(parts)
-}
-
-/// The numbers of the parts that a key names.
-fn parts_at(alloc: Global, tree: &Table, table: &Table, key: Key) -> Result<Items<u32>, NoMemory>
-    requires { IsFew (table_view tree.now) }
-    ensures { IfOk result (λ parts. parts ≡ spec.parts_at key (table_view tree.now) (table_view table.now)) }
-{
-    parts_in(alloc, tree, kind_of(sort_of(key)), list_at(table, key))
-}
-
-/// The values of a key that holds a list.
-fn list_at(table: &Table, key: Key) -> &[Value]
-    ensures { items_view result.now ≡ spec.list_at key (table_view table.now) }
-{
-    match value_at(table, key) {
-        Some(value) => match value.as_array() {
-            Some(array) => array.as_slice(),
-            None => &[],
-        },
-        None => &[],
-    }
 }
 
 /// A row of a board that a table of a tree gives.
@@ -170,15 +111,18 @@ trait Row: Sized {
     ghost made: { Members → Members → Self };
 
     /// The row of a table.
-    fn read(alloc: Global, tree: &Table, table: &Table) -> Result<Self, NoMemory>
-        requires { IsFew (table_view tree.now) }
-        ensures { IfOk result (λ read. read ≡ made (table_view tree.now) (table_view table.now)) };
+    fn read(alloc: Global, document: &Document<'_>, table: &Table) -> Result<Self, NoMemory>
+        ensures { IfOk result (λ read. read ≡ made (table_view document.now.tree.now) (table_view table.now)) };
 }
 
 impl Row for MemoryRow {
     ghost made = { spec.memory_row };
 
-    fn read(_alloc: Global, _tree: &Table, table: &Table) -> Result<MemoryRow, NoMemory> {
+    fn read(
+        _alloc: Global,
+        _document: &Document<'_>,
+        table: &Table,
+    ) -> Result<MemoryRow, NoMemory> {
         Ok(MemoryRow {
             base: number_at(table, Key::Base),
             size: number_at(table, Key::Size),
@@ -189,7 +133,7 @@ impl Row for MemoryRow {
 impl Row for CoreRow {
     ghost made = { spec.core_row };
 
-    fn read(alloc: Global, _tree: &Table, table: &Table) -> Result<CoreRow, NoMemory> {
+    fn read(alloc: Global, _document: &Document<'_>, table: &Table) -> Result<CoreRow, NoMemory> {
         Ok(CoreRow {
             cpuid: cpuid_at(table),
             image: text_of(alloc, table, Key::Image)?,
@@ -207,7 +151,7 @@ impl Row for CoreRow {
 impl Row for MutexRow {
     ghost made = { spec.mutex_row };
 
-    fn read(alloc: Global, _tree: &Table, table: &Table) -> Result<MutexRow, NoMemory> {
+    fn read(alloc: Global, _document: &Document<'_>, table: &Table) -> Result<MutexRow, NoMemory> {
         Ok(MutexRow {
             name: text_of(alloc, table, Key::Name)?,
             base: number_at(table, Key::Base),
@@ -218,7 +162,11 @@ impl Row for MutexRow {
 impl Row for MailboxRow {
     ghost made = { spec.mailbox_row };
 
-    fn read(alloc: Global, _tree: &Table, table: &Table) -> Result<MailboxRow, NoMemory> {
+    fn read(
+        alloc: Global,
+        _document: &Document<'_>,
+        table: &Table,
+    ) -> Result<MailboxRow, NoMemory> {
         Ok(MailboxRow {
             name: text_of(alloc, table, Key::Name)?,
             send: number_at(table, Key::Send),
@@ -234,7 +182,7 @@ impl Row for MailboxRow {
 impl Row for TimerRow {
     ghost made = { spec.timer_row };
 
-    fn read(alloc: Global, _tree: &Table, table: &Table) -> Result<TimerRow, NoMemory> {
+    fn read(alloc: Global, _document: &Document<'_>, table: &Table) -> Result<TimerRow, NoMemory> {
         Ok(TimerRow {
             name: text_of(alloc, table, Key::Name)?,
             base: number_at(table, Key::Base),
@@ -248,7 +196,7 @@ impl Row for TimerRow {
 impl Row for UartRow {
     ghost made = { spec.uart_row };
 
-    fn read(alloc: Global, _tree: &Table, table: &Table) -> Result<UartRow, NoMemory> {
+    fn read(alloc: Global, _document: &Document<'_>, table: &Table) -> Result<UartRow, NoMemory> {
         Ok(UartRow {
             name: text_of(alloc, table, Key::Name)?,
             base: number_at(table, Key::Base),
@@ -264,19 +212,27 @@ impl Row for UartRow {
 /// The class of a region, by its word.
 fn class_by(
     alloc: Global,
-    tree: &Table,
+    document: &Document<'_>,
     table: &Table,
     word: Option<Word>,
 ) -> Result<RegionClass, NoMemory>
-    requires { IsFew (table_view tree.now) }
-    ensures { IfOk result (λ class. class ≡ spec.class_by (table_view tree.now) (table_view table.now) word) }
+    ensures { IfOk result (λ class. class ≡ spec.class_by (table_view document.now.tree.now) (table_view table.now) word) }
 {
     match word {
         Some(Word::Private) => Ok(RegionClass::Private(number_at(table, Key::Core))),
-        Some(Word::Mutex) => Ok(RegionClass::Mutex(part_at(tree, table, Key::Mutex))),
+        Some(Word::Mutex) => Ok(RegionClass::Mutex(part_in(
+            document,
+            Named::Mutex,
+            text_at(table, Key::Mutex),
+        ))),
         Some(Word::Passed) => Ok(RegionClass::Passed {
             holder: number_at(table, Key::Holder),
-            mailboxes: parts_at(alloc, tree, table, Key::Mailboxes)?,
+            mailboxes: parts_in(
+                alloc,
+                document,
+                Named::Mailbox,
+                values_of(value_at(table, Key::Mailboxes)),
+            )?,
         }),
         Some(Word::Uncached) => Ok(RegionClass::Uncached),
         _ => Ok(RegionClass::Code),
@@ -286,12 +242,12 @@ fn class_by(
 impl Row for RegionRow {
     ghost made = { spec.region_row };
 
-    fn read(alloc: Global, tree: &Table, table: &Table) -> Result<RegionRow, NoMemory> {
+    fn read(alloc: Global, document: &Document<'_>, table: &Table) -> Result<RegionRow, NoMemory> {
         Ok(RegionRow {
             name: text_of(alloc, table, Key::Name)?,
             base: number_at(table, Key::Base),
             size: number_at(table, Key::Size),
-            class: class_by(alloc, tree, table, word_at(table, Key::Class))?,
+            class: class_by(alloc, document, table, word_at(table, Key::Class))?,
         })
     }
 }
@@ -299,7 +255,7 @@ impl Row for RegionRow {
 impl Row for DumpRow {
     ghost made = { spec.dump_row };
 
-    fn read(_alloc: Global, _tree: &Table, table: &Table) -> Result<DumpRow, NoMemory> {
+    fn read(_alloc: Global, _document: &Document<'_>, table: &Table) -> Result<DumpRow, NoMemory> {
         Ok(DumpRow {
             at: number_at(table, Key::At),
             lines: number_at(table, Key::Lines),
@@ -308,13 +264,20 @@ impl Row for DumpRow {
 }
 
 /// The event of a row of the script, by its word.
-fn event_by(tree: &Table, table: &Table, word: Option<Word>) -> DeviceEvent
-    requires { IsFew (table_view tree.now) }
-    ensures { result ≡ spec.event_by (table_view tree.now) (table_view table.now) word }
+fn event_by(document: &Document<'_>, table: &Table, word: Option<Word>) -> DeviceEvent
+    ensures { result ≡ spec.event_by (table_view document.now.tree.now) (table_view table.now) word }
 {
     match word {
-        Some(Word::Receive) => DeviceEvent::Receive(part_at(tree, table, Key::Uart)),
-        Some(Word::Drain) => DeviceEvent::Drain(part_at(tree, table, Key::Uart)),
+        Some(Word::Receive) => DeviceEvent::Receive(part_in(
+            document,
+            Named::Uart,
+            text_at(table, Key::Uart),
+        )),
+        Some(Word::Drain) => DeviceEvent::Drain(part_in(
+            document,
+            Named::Uart,
+            text_at(table, Key::Uart),
+        )),
         _ => DeviceEvent::Tick(number_at(table, Key::N)),
     }
 }
@@ -322,9 +285,9 @@ fn event_by(tree: &Table, table: &Table, word: Option<Word>) -> DeviceEvent
 impl Row for ScriptRow {
     ghost made = { spec.script_row };
 
-    fn read(_alloc: Global, tree: &Table, table: &Table) -> Result<ScriptRow, NoMemory> {
+    fn read(_alloc: Global, document: &Document<'_>, table: &Table) -> Result<ScriptRow, NoMemory> {
         Ok(ScriptRow {
-            event: event_by(tree, table, word_at(table, Key::Do)),
+            event: event_by(document, table, word_at(table, Key::Do)),
             times: number_at(table, Key::Times),
         })
     }
@@ -333,50 +296,50 @@ impl Row for ScriptRow {
 /// Appends the row of a value, if it is a table.
 fn put_row<R: Row + Drop>(
     alloc: Global,
-    tree: &Table,
+    document: &Document<'_>,
     value: &Value,
     rows: &mut Items<R>,
 ) -> Result<(), NoMemory>
-    requires { IsFew (table_view tree.now) }
-    ensures { OnOk result (rows.new ≡ rows.old ++ spec.rows_of (R.made (table_view tree.now)) (view value.now)) }
+    ensures { OnOk result (rows.new ≡ rows.old ++ spec.rows_in (R.made (table_view document.now.tree.now)) (view value.now ∷ [])) }
 {
     match value.as_table() {
-        Some(table) => rows.push(R::read(alloc, tree, table)?),
+        Some(table) => rows.push(R::read(alloc, document, table)?),
         None => Ok(()),
     }
 }
 
 /// The rows of an array.
-#[tactic(auto, using(crate::proofs::Steps::item_steps), unfolding(crate::specs::Boards::rows_in))]
-fn rows_at<R: Row + Drop>(alloc: Global, tree: &Table, kind: PartKind) -> Result<Items<R>, NoMemory>
-    requires { IsFew (table_view tree.now) }
-    ensures { IfOk result (λ rows. rows ≡ spec.rows_at kind R.made (table_view tree.now)) }
+fn rows_at<R: Row + Drop>(
+    alloc: Global,
+    document: &Document<'_>,
+    kind: PartKind,
+) -> Result<Items<R>, NoMemory>
+    ensures { IfOk result (λ rows. rows ≡ spec.rows_at kind R.made (table_view document.now.tree.now)) }
 {
-    let items = items_at(tree, kind);
+    let items = items_at(document.tree, kind);
     let mut rows = Items::new(alloc);
     for item in items {
-        put_row(alloc, tree, item, &mut rows)?;
+        put_row(alloc, document, item, &mut rows)?;
     }
     Ok(rows)
 }
 
 /// The board that a tree stands for.
 #[tactic(auto, unfolding(crate::specs::Boards::board_of))]
-pub fn board_of(alloc: Global, tree: &Table) -> Result<Board, NoMemory>
-    requires { IsFew (table_view tree.now) }
-    ensures { IfOk result (λ board. board ≡ spec.board_of (table_view tree.now)) }
+pub fn board_of(alloc: Global, document: &Document<'_>) -> Result<Board, NoMemory>
+    ensures { IfOk result (λ board. board ≡ spec.board_of (table_view document.now.tree.now)) }
 {
     Ok(Board {
-        turns: turns_at(tree),
-        journal: number_at(tree, Key::Journal),
-        memory: rows_at(alloc, tree, PartKind::Memory)?,
-        core: rows_at(alloc, tree, PartKind::Core)?,
-        mutex: rows_at(alloc, tree, PartKind::Mutex)?,
-        mailbox: rows_at(alloc, tree, PartKind::Mailbox)?,
-        timer: rows_at(alloc, tree, PartKind::Timer)?,
-        uart: rows_at(alloc, tree, PartKind::Uart)?,
-        region: rows_at(alloc, tree, PartKind::Region)?,
-        dump: rows_at(alloc, tree, PartKind::Dump)?,
-        script: rows_at(alloc, tree, PartKind::Script)?,
+        turns: turns_at(document.tree),
+        journal: number_at(document.tree, Key::Journal),
+        memory: rows_at(alloc, document, PartKind::Memory)?,
+        core: rows_at(alloc, document, PartKind::Core)?,
+        mutex: rows_at(alloc, document, PartKind::Mutex)?,
+        mailbox: rows_at(alloc, document, PartKind::Mailbox)?,
+        timer: rows_at(alloc, document, PartKind::Timer)?,
+        uart: rows_at(alloc, document, PartKind::Uart)?,
+        region: rows_at(alloc, document, PartKind::Region)?,
+        dump: rows_at(alloc, document, PartKind::Dump)?,
+        script: rows_at(alloc, document, PartKind::Script)?,
     })
 }

@@ -1,157 +1,150 @@
 //! The first thing that is wrong with a text's tree, before a board is made of it.
 
-ghost use Rattle.std.specs.Prelude.{◌≡◌, ◌<◌, ◌^◌, length};
-ghost use Rattle.toml.specs.View.{view, table_view, items_view};
-ghost use Rattle.n2_text.specs.Firsts as firsts;
+ghost use Rattle.std.specs.Prelude.{◌≡◌, ◌<◌, ◌^◌, None, map, length};
+ghost use Rattle.std.specs.List.{list_all};
+ghost use Rattle.std.specs.Result.{result_err};
+ghost use Rattle.toml.specs.View.{view, table_view};
 ghost use Rattle.n2_boardtext.specs.Faults as spec;
-ghost use Rattle.n2_boardtext.specs.Values.{IsFew};
 
-use crate::fault::TextFault;
+use crate::document::Document;
+use crate::fault::{TextFault, unless};
 use crate::keys::{
-    Entry, Sort, Word, entries_of, first_key, key_of, known_entries, sort_of, word_of,
+    Entry, Named, Sort, Word, any_entries, entries_by, first_entries, first_key, key_of,
+    last_entries, sort_of, word_of,
 };
-use crate::values::{array_at, in_range, index_of, value_at, word_in};
+use crate::values::{array_at, in_range, value_at, word_in};
 use crate::words::{key_name, kind_name};
-use n2_board::{ARRAYS, Key, Part, PartKind};
+use n2_parts::{ARRAYS, Key, Part, PartKind};
 use toml::{Table, Value};
 
-fn unless(holds: bool, fault: TextFault) -> Option<TextFault>
-    ensures { result ≡ firsts.unless holds fault }
-{
-    if holds { None } else { Some(fault) }
-}
-
-#[tactic(auto, using(crate::proofs::Steps::item_steps), unfolding(crate::specs::Faults::are_texts))]
+/// Whether all values are texts.
 fn are_texts(items: &[Value]) -> bool
-    ensures { result ≡ spec.are_texts (items_view items.now) }
+    ensures { result ≡ list_all (λ item. spec.is_text (view item)) items.now }
 {
-    for item in items {
-        if item.as_str().is_none() {
-            return false;
-        }
-    }
-    true
+    items.iter().all(|item| item.as_str().is_some())
 }
 
-fn is_part(tree: &Table, kind: PartKind, value: &Value) -> bool
-    ensures { result ≡ spec.is_part kind (table_view tree.now) (view value.now) }
+/// Whether a value is the name of a part.
+fn is_part(document: &Document<'_>, array: Named, value: &Value) -> bool
+    ensures { result ≡ spec.is_part array (table_view document.now.tree.now) (view value.now) }
 {
     match value.as_str() {
-        Some(text) => index_of(tree, kind, text).is_some(),
+        Some(name) => document.index_of(array, name).is_some(),
         None => false,
     }
 }
 
-#[tactic(auto, using(crate::proofs::Steps::item_steps), unfolding(crate::specs::Faults::are_parts))]
-fn are_parts(tree: &Table, kind: PartKind, items: &[Value]) -> bool
-    ensures { result ≡ spec.are_parts kind (table_view tree.now) (items_view items.now) }
+/// Whether all values are names of parts.
+fn are_parts(document: &Document<'_>, array: Named, items: &[Value]) -> bool
+    ensures { result ≡ list_all (λ item. spec.is_part array (table_view document.now.tree.now) (view item)) items.now }
 {
-    for item in items {
-        if !is_part(tree, kind, item) {
-            return false;
-        }
-    }
-    true
+    items.iter().all(|item| is_part(document, array, item))
 }
 
-fn names_fault(
-    tree: &Table,
+/// Checks a list of names: that all are texts, and then that all are names of parts.
+fn check_names(
+    document: &Document<'_>,
     part: Part,
     key: Key,
-    kind: PartKind,
+    array: Named,
     items: &[Value],
-) -> Option<TextFault>
-    ensures { result ≡ spec.names_fault (table_view tree.now) part key kind (items_view items.now) }
+) -> Result<(), TextFault>
+    ensures { result_err result ≡ spec.names_fault (table_view document.now.tree.now) part key array (map view items.now) }
 {
-    if !are_texts(items) {
-        return Some(TextFault::Kind(part, key));
-    }
-    unless(are_parts(tree, kind, items), TextFault::NoPart(part, key))
+    unless(are_texts(items), TextFault::Kind(part, key))?;
+    unless(
+        are_parts(document, array, items),
+        TextFault::NoPart(part, key),
+    )
 }
 
-/// What is wrong with the value of a key.
-#[tactic(auto, unfolding(crate::specs::Faults::value_fault))]
-fn value_fault(tree: &Table, part: Part, key: Key, sort: Sort, value: &Value) -> Option<TextFault>
-    ensures { result ≡ spec.value_fault (table_view tree.now) part key sort (view value.now) }
+/// Checks the value of a key: `Kind`, `Range` and `NoPart`.
+#[tactic(auto, using(crate::proofs::Steps::list_steps), unfolding(crate::specs::Faults::value_fault))]
+fn check_value(
+    document: &Document<'_>,
+    part: Part,
+    key: Key,
+    sort: Sort,
+    value: &Value,
+) -> Result<(), TextFault>
+    ensures { result_err result ≡ spec.value_fault (table_view document.now.tree.now) part key sort (view value.now) }
 {
+    let other_kind = TextFault::Kind(part, key);
+    let no_part = TextFault::NoPart(part, key);
     match sort {
-        Sort::Number(most) => match value.as_integer() {
-            Some(integer) => unless(
+        Sort::Number(most) => {
+            let integer = value.as_integer().ok_or(other_kind)?;
+            unless(
                 in_range(most, integer).is_some(),
                 TextFault::Range(part, key),
-            ),
-            None => Some(TextFault::Kind(part, key)),
-        },
-        Sort::Text => match value.as_str() {
-            Some(_) => None,
-            None => Some(TextFault::Kind(part, key)),
-        },
-        Sort::Choice => match value.as_str() {
-            Some(text) => unless(word_of(key, text).is_some(), TextFault::NoPart(part, key)),
-            None => Some(TextFault::Kind(part, key)),
-        },
-        Sort::Name(kind) => match value.as_str() {
-            Some(text) => unless(
-                index_of(tree, kind, text).is_some(),
-                TextFault::NoPart(part, key),
-            ),
-            None => Some(TextFault::Kind(part, key)),
-        },
-        Sort::Names(kind) => match value.as_array() {
-            Some(array) => names_fault(tree, part, key, kind, array.as_slice()),
-            None => Some(TextFault::Kind(part, key)),
-        },
+            )
+        }
+        Sort::Text => {
+            value.as_str().ok_or(other_kind)?;
+            Ok(())
+        }
+        Sort::Choice => {
+            let text = value.as_str().ok_or(other_kind)?;
+            unless(word_of(key, text).is_some(), no_part)
+        }
+        Sort::Name(array) => {
+            let name = value.as_str().ok_or(other_kind)?;
+            unless(document.index_of(array, name).is_some(), no_part)
+        }
+        Sort::Names(array) => {
+            let names = value.as_array().ok_or(other_kind)?;
+            check_names(document, part, key, array, names.as_slice())
+        }
     }
 }
 
-/// What is wrong with a key of a part.
-fn entry_fault(tree: &Table, part: Part, table: &Table, entry: Entry) -> Option<TextFault>
-    ensures { result ≡ spec.entry_fault (table_view tree.now) part (table_view table.now) entry }
+/// Checks a key of a part, which may not be there.
+fn check_entry(
+    document: &Document<'_>,
+    part: Part,
+    table: &Table,
+    entry: Entry,
+) -> Result<(), TextFault>
+    ensures { result_err result ≡ spec.entry_fault (table_view document.now.tree.now) part (table_view table.now) entry }
 {
     let key = key_of(entry);
     match value_at(table, key) {
-        Some(value) => value_fault(tree, part, key, sort_of(key), value),
+        Some(value) => check_value(document, part, key, sort_of(key), value),
         None => match entry {
-            Entry::Must(key) => Some(TextFault::Missing(part, key)),
-            Entry::May(_) => None,
+            Entry::Must(key) => Err(TextFault::Missing(part, key)),
+            Entry::May(_) => Ok(()),
         },
     }
 }
 
-/// The first of some keys with which something is wrong.
+/// Checks some keys of a part in order.
 #[tactic(auto, unfolding(crate::specs::Faults::entries_fault))]
-fn entries_fault(tree: &Table, part: Part, table: &Table, entries: &[Entry]) -> Option<TextFault>
-    ensures { result ≡ spec.entries_fault (table_view tree.now) part (table_view table.now) entries.now }
+fn check_entries(
+    document: &Document<'_>,
+    part: Part,
+    table: &Table,
+    entries: &[Entry],
+) -> Result<(), TextFault>
+    ensures { result_err result ≡ spec.entries_fault (table_view document.now.tree.now) part (table_view table.now) entries.now }
 {
     for entry in entries {
-        match entry_fault(tree, part, table, *entry) {
-            Some(fault) => return Some(fault),
-            None => (),
-        }
+        check_entry(document, part, table, *entry)?;
     }
-    None
+    Ok(())
 }
 
+/// Whether a name is that of one of some keys.
 fn names_entry(name: &str, entries: &[Entry]) -> bool
     ensures { result ≡ spec.names_entry name.now entries.now }
 {
-    for entry in entries {
-        if name == key_name(key_of(*entry)) {
-            return true;
-        }
-    }
-    false
+    entries.iter().any(|entry| name == key_name(key_of(*entry)))
 }
 
+/// Whether a name is that of one of some arrays.
 fn names_kind(name: &str, kinds: &[PartKind]) -> bool
     ensures { result ≡ spec.names_kind name.now kinds.now }
 {
-    for kind in kinds {
-        if name == kind_name(*kind) {
-            return true;
-        }
-    }
-    false
+    kinds.iter().any(|kind| name == kind_name(*kind))
 }
 
 /// The arrays whose names the text itself has as keys.
@@ -169,7 +162,10 @@ fn known_kinds(kind: PartKind) -> &'static [PartKind]
 fn is_known(kind: PartKind, word: Option<Word>, name: &str) -> bool
     ensures { result ≡ spec.is_known kind word name.now }
 {
-    names_entry(name, known_entries(kind, word)) || names_kind(name, known_kinds(kind))
+    names_entry(name, first_entries(kind))
+        || names_entry(name, entries_by(word, any_entries(kind)))
+        || names_entry(name, last_entries(kind))
+        || names_kind(name, known_kinds(kind))
 }
 
 /// Whether a part has all keys of a table.
@@ -185,90 +181,80 @@ fn are_known(kind: PartKind, word: Option<Word>, table: &Table) -> bool
     true
 }
 
-/// What is wrong with a table.
+/// Checks a table: that it has no unknown key, and then its keys in order.
 #[tactic(auto, unfolding(crate::specs::Faults::table_fault))]
-fn table_fault(tree: &Table, part: Part, table: &Table) -> Option<TextFault>
-    ensures { result ≡ spec.table_fault (table_view tree.now) part (table_view table.now) }
+fn check_table(document: &Document<'_>, part: Part, table: &Table) -> Result<(), TextFault>
+    ensures { result_err result ≡ spec.table_fault (table_view document.now.tree.now) part (table_view table.now) }
 {
     let word = word_in(part.kind, table);
-    if !are_known(part.kind, word, table) {
-        return Some(TextFault::Unknown(part));
-    }
-    entries_fault(tree, part, table, entries_of(part.kind, word))
+    unless(are_known(part.kind, word, table), TextFault::Unknown(part))?;
+    check_entries(document, part, table, first_entries(part.kind))?;
+    check_entries(document, part, table, entries_by(word, &[]))?;
+    check_entries(document, part, table, last_entries(part.kind))
 }
 
-/// What is wrong with a value that is to be the table of a part.
-fn part_fault(tree: &Table, part: Part, value: &Value) -> Option<TextFault>
-    ensures { result ≡ spec.part_fault (table_view tree.now) part (view value.now) }
+/// Checks a value that is to be the table of a part.
+fn check_part(document: &Document<'_>, part: Part, value: &Value) -> Result<(), TextFault>
+    ensures { result_err result ≡ spec.part_fault (table_view document.now.tree.now) part (view value.now) }
 {
-    match value.as_table() {
-        Some(table) => table_fault(tree, part, table),
-        None => Some(TextFault::Kind(part, first_key(part.kind))),
-    }
+    let table = value
+        .as_table()
+        .ok_or(TextFault::Kind(part, first_key(part.kind)))?;
+    check_table(document, part, table)
 }
 
-/// The first fault of the parts of an array.
-#[tactic(auto, using(crate::proofs::Steps::item_steps), unfolding(crate::specs::Faults::parts_fault))]
-fn parts_fault(tree: &Table, kind: PartKind, items: &[Value]) -> Option<TextFault>
+/// Checks the parts of an array in order.
+#[tactic(auto, unfolding(crate::specs::Faults::parts_fault))]
+fn check_parts(document: &Document<'_>, kind: PartKind, items: &[Value]) -> Result<(), TextFault>
     requires { length items.now < 2 ^ 32 }
-    ensures { result ≡ spec.parts_fault (table_view tree.now) kind 0 (items_view items.now) }
+    ensures { result_err result ≡ spec.parts_fault (table_view document.now.tree.now) kind 0 (map view items.now) }
 {
     for (i, item) in items.iter().enumerate() {
-        let part = Part {
-            kind,
-            index: i as u32,
-        };
-        match part_fault(tree, part, item) {
-            Some(fault) => return Some(fault),
-            None => (),
-        }
+        let index = i as u32;
+        check_part(document, Part { kind, index }, item)?;
     }
-    None
+    Ok(())
 }
 
-/// The first fault of an array, which need not be there.
-#[tactic(auto, unfolding(crate::specs::Faults::array_fault))]
-fn array_fault(tree: &Table, kind: PartKind) -> Option<TextFault>
-    requires { IsFew (table_view tree.now) }
-    ensures { result ≡ spec.array_fault (table_view tree.now) kind }
+/// Checks an array, which need not be there.
+#[tactic(auto, using(crate::proofs::Steps::list_steps), unfolding(crate::specs::Faults::array_fault))]
+fn check_array(document: &Document<'_>, kind: PartKind) -> Result<(), TextFault>
+    requires { spec.length_fault (table_view document.now.tree.now) kind ≡ None }
+    ensures { result_err result ≡ spec.array_fault (table_view document.now.tree.now) kind }
 {
-    match array_at(tree, kind) {
-        Some(value) => match value.as_array() {
-            Some(array) => parts_fault(tree, kind, array.as_slice()),
-            None => Some(TextFault::Kind(Part { kind, index: 0 }, first_key(kind))),
-        },
-        None => None,
+    let first = Part { kind, index: 0 };
+    match array_at(document.tree, kind) {
+        Some(value) => {
+            let array = value
+                .as_array()
+                .ok_or(TextFault::Kind(first, first_key(kind)))?;
+            check_parts(document, kind, array.as_slice())
+        }
+        None => Ok(()),
     }
 }
 
-/// The first fault of some arrays.
-#[tactic(auto, unfolding(crate::specs::Faults::arrays_fault))]
-fn arrays_fault(tree: &Table, kinds: &[PartKind]) -> Option<TextFault>
-    requires { IsFew (table_view tree.now) }
-    ensures { result ≡ spec.arrays_fault (table_view tree.now) kinds.now }
+/// Checks some arrays in order.
+#[tactic(auto, unfolding(crate::specs::Faults::arrays_fault, crate::specs::Faults::lengths_fault))]
+fn check_arrays(document: &Document<'_>, kinds: &[PartKind]) -> Result<(), TextFault>
+    requires { spec.lengths_fault (table_view document.now.tree.now) kinds.now ≡ None }
+    ensures { result_err result ≡ spec.arrays_fault (table_view document.now.tree.now) kinds.now }
 {
     for kind in kinds {
-        match array_fault(tree, *kind) {
-            Some(fault) => return Some(fault),
-            None => (),
-        }
+        check_array(document, *kind)?;
     }
-    None
+    Ok(())
 }
 
-/// The first fault of a text: of its own keys, and then of its arrays in order.
+/// Checks a text: its own keys, and then its arrays in order. The error is its first fault.
 #[tactic(auto, unfolding(crate::specs::Faults::text_fault))]
-pub fn text_fault(tree: &Table) -> Option<TextFault>
-    requires { IsFew (table_view tree.now) }
-    ensures { result ≡ spec.text_fault (table_view tree.now) }
+pub fn check_text(document: &Document<'_>) -> Result<(), TextFault>
+    ensures { result_err result ≡ spec.text_fault (table_view document.now.tree.now) }
 {
     let top = Part {
         kind: PartKind::Top,
         index: 0,
     };
-    match table_fault(tree, top, tree) {
-        Some(fault) => return Some(fault),
-        None => (),
-    }
-    arrays_fault(tree, &ARRAYS)
+    check_table(document, top, document.tree)?;
+    check_arrays(document, &ARRAYS)
 }

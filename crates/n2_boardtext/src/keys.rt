@@ -3,21 +3,29 @@
 ghost use Rattle.std.specs.Prelude.{◌≡◌};
 ghost use Rattle.n2_boardtext.specs.Keys as spec;
 
-use n2_board::{Key, PartKind};
+use n2_parts::{Key, PartKind};
 
 /// What a key holds: a number from 0 to this one, a text, one of the key's words, the name of a
 /// part of an array, or a list of such names.
-#[derive(Clone, Copy, Debug, PartialEq, Eq)]
+#[derive(Clone, Copy)]
 pub enum Sort {
     Number(u64),
     Text,
     Choice,
-    Name(PartKind),
-    Names(PartKind),
+    Name(Named),
+    Names(Named),
+}
+
+/// The arrays whose parts are named elsewhere: by regions and by the script.
+#[derive(Clone, Copy)]
+pub enum Named {
+    Mutex,
+    Mailbox,
+    Uart,
 }
 
 /// The words of `class` and of `do`.
-#[derive(Clone, Copy, Debug, PartialEq, Eq)]
+#[derive(Clone, Copy)]
 pub enum Word {
     Code,
     Private,
@@ -30,7 +38,7 @@ pub enum Word {
 }
 
 /// A key that a part must have, or one that it may have.
-#[derive(Clone, Copy, Debug, PartialEq, Eq)]
+#[derive(Clone, Copy)]
 pub enum Entry {
     Must(Key),
     May(Key),
@@ -58,10 +66,21 @@ pub fn sort_of(key: Key) -> Sort
         Key::Input => Sort::Text,
         Key::Class => Sort::Choice,
         Key::Do => Sort::Choice,
-        Key::Mutex => Sort::Name(PartKind::Mutex),
-        Key::Mailboxes => Sort::Names(PartKind::Mailbox),
-        Key::Uart => Sort::Name(PartKind::Uart),
+        Key::Mutex => Sort::Name(Named::Mutex),
+        Key::Mailboxes => Sort::Names(Named::Mailbox),
+        Key::Uart => Sort::Name(Named::Uart),
         _ => Sort::Number(4_294_967_295),
+    }
+}
+
+/// The array whose parts are named.
+pub fn kind_of(array: Named) -> PartKind
+    ensures { result ≡ spec.kind_of array }
+{
+    match array {
+        Named::Mutex => PartKind::Mutex,
+        Named::Mailbox => PartKind::Mailbox,
+        Named::Uart => PartKind::Uart,
     }
 }
 
@@ -88,21 +107,17 @@ fn words_of(key: Key) -> &'static [Word]
     ensures { result.now ≡ spec.words_of key }
 {
     match key {
-        Key::Class => &CLASSES,
-        Key::Do => &EVENTS,
+        Key::Class => &[
+            Word::Code,
+            Word::Private,
+            Word::Mutex,
+            Word::Passed,
+            Word::Uncached,
+        ],
+        Key::Do => &[Word::Tick, Word::Receive, Word::Drain],
         _ => &[],
     }
 }
-
-static CLASSES: [Word; 5] = [
-    Word::Code,
-    Word::Private,
-    Word::Mutex,
-    Word::Passed,
-    Word::Uncached,
-];
-
-static EVENTS: [Word; 3] = [Word::Tick, Word::Receive, Word::Drain];
 
 fn word_name(word: Word) -> &'static str
     ensures { result.now ≡ spec.word_name word }
@@ -124,12 +139,7 @@ pub fn word_of(key: Key, text: &str) -> Option<Word>
     ensures { result ≡ spec.word_of key text.now }
 {
     let words = words_of(key);
-    for word in words {
-        if text == word_name(*word) {
-            return Some(*word);
-        }
-    }
-    None
+    words.iter().copied().find(|word| text == word_name(*word))
 }
 
 /// The key that a part has first.
@@ -140,180 +150,114 @@ pub fn first_key(kind: PartKind) -> Key
         PartKind::Top => Key::Turns,
         PartKind::Memory => Key::Base,
         PartKind::Core => Key::Cpuid,
-        PartKind::Mutex => Key::Name,
-        PartKind::Mailbox => Key::Name,
-        PartKind::Timer => Key::Name,
-        PartKind::Uart => Key::Name,
-        PartKind::Region => Key::Name,
         PartKind::Dump => Key::At,
         PartKind::Script => Key::Do,
+        _ => Key::Name,
     }
 }
 
-static TOP: [Entry; 2] = [Entry::May(Key::Turns), Entry::May(Key::Journal)];
-
-static MEMORY: [Entry; 2] = [Entry::Must(Key::Base), Entry::Must(Key::Size)];
-
-static CORE: [Entry; 9] = [
-    Entry::Must(Key::Cpuid),
-    Entry::Must(Key::Image),
-    Entry::May(Key::At),
-    Entry::May(Key::Reset),
-    Entry::May(Key::Exception),
-    Entry::May(Key::Dcache),
-    Entry::May(Key::Icache),
-    Entry::May(Key::Sample),
-    Entry::May(Key::Evict),
-];
-
-static MUTEX: [Entry; 2] = [Entry::Must(Key::Name), Entry::Must(Key::Base)];
-
-static MAILBOX: [Entry; 7] = [
-    Entry::Must(Key::Name),
-    Entry::Must(Key::Send),
-    Entry::Must(Key::Receive),
-    Entry::Must(Key::Sender),
-    Entry::Must(Key::Receiver),
-    Entry::May(Key::SendIrq),
-    Entry::May(Key::ReceiveIrq),
-];
-
-static TIMER: [Entry; 5] = [
-    Entry::Must(Key::Name),
-    Entry::Must(Key::Base),
-    Entry::May(Key::Core),
-    Entry::May(Key::Irq),
-    Entry::May(Key::Period),
-];
-
-static UART: [Entry; 7] = [
-    Entry::Must(Key::Name),
-    Entry::Must(Key::Base),
-    Entry::May(Key::Core),
-    Entry::May(Key::Irq),
-    Entry::May(Key::ReadDepth),
-    Entry::May(Key::WriteDepth),
-    Entry::May(Key::Input),
-];
-
-static REGION: [Entry; 4] = [
-    Entry::Must(Key::Name),
-    Entry::Must(Key::Base),
-    Entry::Must(Key::Size),
-    Entry::Must(Key::Class),
-];
-
-static PRIVATE_REGION: [Entry; 5] = [
-    Entry::Must(Key::Name),
-    Entry::Must(Key::Base),
-    Entry::Must(Key::Size),
-    Entry::Must(Key::Class),
-    Entry::Must(Key::Core),
-];
-
-static MUTEX_REGION: [Entry; 5] = [
-    Entry::Must(Key::Name),
-    Entry::Must(Key::Base),
-    Entry::Must(Key::Size),
-    Entry::Must(Key::Class),
-    Entry::Must(Key::Mutex),
-];
-
-static PASSED_REGION: [Entry; 6] = [
-    Entry::Must(Key::Name),
-    Entry::Must(Key::Base),
-    Entry::Must(Key::Size),
-    Entry::Must(Key::Class),
-    Entry::Must(Key::Holder),
-    Entry::Must(Key::Mailboxes),
-];
-
-static ANY_REGION: [Entry; 8] = [
-    Entry::Must(Key::Name),
-    Entry::Must(Key::Base),
-    Entry::Must(Key::Size),
-    Entry::Must(Key::Class),
-    Entry::Must(Key::Core),
-    Entry::Must(Key::Mutex),
-    Entry::Must(Key::Holder),
-    Entry::Must(Key::Mailboxes),
-];
-
-static DUMP: [Entry; 2] = [Entry::Must(Key::At), Entry::Must(Key::Lines)];
-
-static SCRIPT: [Entry; 2] = [Entry::Must(Key::Do), Entry::May(Key::Times)];
-
-static TICK: [Entry; 3] = [
-    Entry::Must(Key::Do),
-    Entry::Must(Key::N),
-    Entry::May(Key::Times),
-];
-
-static UART_EVENT: [Entry; 3] = [
-    Entry::Must(Key::Do),
-    Entry::Must(Key::Uart),
-    Entry::May(Key::Times),
-];
-
-static ANY_SCRIPT: [Entry; 4] = [
-    Entry::Must(Key::Do),
-    Entry::Must(Key::N),
-    Entry::Must(Key::Uart),
-    Entry::May(Key::Times),
-];
-
-/// The keys of a region of a class, in order.
-fn region_entries(word: Option<Word>) -> &'static [Entry]
-    ensures { result.now ≡ spec.region_entries word }
-{
-    match word {
-        Some(Word::Private) => &PRIVATE_REGION,
-        Some(Word::Mutex) => &MUTEX_REGION,
-        Some(Word::Passed) => &PASSED_REGION,
-        _ => &REGION,
-    }
-}
-
-/// The keys of an event of the script, in order.
-fn script_entries(word: Option<Word>) -> &'static [Entry]
-    ensures { result.now ≡ spec.script_entries word }
-{
-    match word {
-        Some(Word::Tick) => &TICK,
-        Some(Word::Receive) => &UART_EVENT,
-        Some(Word::Drain) => &UART_EVENT,
-        _ => &SCRIPT,
-    }
-}
-
-/// The keys of a part of an array, in order; those of regions and of the script by their word.
-pub fn entries_of(kind: PartKind, word: Option<Word>) -> &'static [Entry]
-    ensures { result.now ≡ spec.entries_of kind word }
+/// The keys of a part of an array that stand before those of its word, in order.
+pub fn first_entries(kind: PartKind) -> &'static [Entry]
+    ensures { result.now ≡ spec.first_entries kind }
 {
     match kind {
-        PartKind::Top => &TOP,
-        PartKind::Memory => &MEMORY,
-        PartKind::Core => &CORE,
-        PartKind::Mutex => &MUTEX,
-        PartKind::Mailbox => &MAILBOX,
-        PartKind::Timer => &TIMER,
-        PartKind::Uart => &UART,
-        PartKind::Region => region_entries(word),
-        PartKind::Dump => &DUMP,
-        PartKind::Script => script_entries(word),
+        PartKind::Top => &[Entry::May(Key::Turns), Entry::May(Key::Journal)],
+        PartKind::Memory => &[Entry::Must(Key::Base), Entry::Must(Key::Size)],
+        PartKind::Core => &[
+            Entry::Must(Key::Cpuid),
+            Entry::Must(Key::Image),
+            Entry::May(Key::At),
+            Entry::May(Key::Reset),
+            Entry::May(Key::Exception),
+            Entry::May(Key::Dcache),
+            Entry::May(Key::Icache),
+            Entry::May(Key::Sample),
+            Entry::May(Key::Evict),
+        ],
+        PartKind::Mutex => &[Entry::Must(Key::Name), Entry::Must(Key::Base)],
+        PartKind::Mailbox => &[
+            Entry::Must(Key::Name),
+            Entry::Must(Key::Send),
+            Entry::Must(Key::Receive),
+            Entry::Must(Key::Sender),
+            Entry::Must(Key::Receiver),
+            Entry::May(Key::SendIrq),
+            Entry::May(Key::ReceiveIrq),
+        ],
+        PartKind::Timer => &[
+            Entry::Must(Key::Name),
+            Entry::Must(Key::Base),
+            Entry::May(Key::Core),
+            Entry::May(Key::Irq),
+            Entry::May(Key::Period),
+        ],
+        PartKind::Uart => &[
+            Entry::Must(Key::Name),
+            Entry::Must(Key::Base),
+            Entry::May(Key::Core),
+            Entry::May(Key::Irq),
+            Entry::May(Key::ReadDepth),
+            Entry::May(Key::WriteDepth),
+            Entry::May(Key::Input),
+        ],
+        PartKind::Region => &[
+            Entry::Must(Key::Name),
+            Entry::Must(Key::Base),
+            Entry::Must(Key::Size),
+            Entry::Must(Key::Class),
+        ],
+        PartKind::Dump => &[Entry::Must(Key::At), Entry::Must(Key::Lines)],
+        PartKind::Script => &[Entry::Must(Key::Do)],
     }
 }
 
-/// The keys that are known of a part: its own, or those of all words where its word is not known.
-pub fn known_entries(kind: PartKind, word: Option<Word>) -> &'static [Entry]
-    ensures { result.now ≡ spec.known_entries kind word }
+/// The keys of a word, in order.
+fn word_entries(word: Word) -> &'static [Entry]
+    ensures { result.now ≡ spec.word_entries word }
 {
     match word {
-        Some(_) => entries_of(kind, word),
-        None => match kind {
-            PartKind::Region => &ANY_REGION,
-            PartKind::Script => &ANY_SCRIPT,
-            _ => entries_of(kind, word),
-        },
+        Word::Private => &[Entry::Must(Key::Core)],
+        Word::Mutex => &[Entry::Must(Key::Mutex)],
+        Word::Passed => &[Entry::Must(Key::Holder), Entry::Must(Key::Mailboxes)],
+        Word::Tick => &[Entry::Must(Key::N)],
+        Word::Receive => &[Entry::Must(Key::Uart)],
+        Word::Drain => &[Entry::Must(Key::Uart)],
+        _ => &[],
+    }
+}
+
+/// The keys of a part of an array that stand after those of its word.
+pub fn last_entries(kind: PartKind) -> &'static [Entry]
+    ensures { result.now ≡ spec.last_entries kind }
+{
+    match kind {
+        PartKind::Script => &[Entry::May(Key::Times)],
+        _ => &[],
+    }
+}
+
+/// The keys that some word of a part has.
+pub fn any_entries(kind: PartKind) -> &'static [Entry]
+    ensures { result.now ≡ spec.any_entries kind }
+{
+    match kind {
+        PartKind::Region => &[
+            Entry::Must(Key::Core),
+            Entry::Must(Key::Mutex),
+            Entry::Must(Key::Holder),
+            Entry::Must(Key::Mailboxes),
+        ],
+        PartKind::Script => &[Entry::Must(Key::N), Entry::Must(Key::Uart)],
+        _ => &[],
+    }
+}
+
+/// The keys of a word, or these where the word is not known.
+pub fn entries_by(word: Option<Word>, others: &'static [Entry]) -> &'static [Entry]
+    ensures { result.now ≡ spec.entries_by word others.now }
+{
+    match word {
+        Some(word) => word_entries(word),
+        None => others,
     }
 }

@@ -2,6 +2,7 @@
 #![tactic(auto)]
 
 mod boards;
+mod document;
 mod fault;
 mod faults;
 mod keys;
@@ -18,5 +19,3 @@ pub use words::{key_name, kind_name};
 
 #[cfg(test)]
 mod tests;
-#[cfg(test)]
-mod tests_rows;

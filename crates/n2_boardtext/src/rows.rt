@@ -1,11 +1,11 @@
 //! Faults of a board's text as rows.
 
-ghost use Rattle.std.specs.Prelude.{◌≡◌, ◌++◌, OnOk};
+ghost use Rattle.std.specs.Prelude.{◌≡◌, ◌++◌, OnOk, OnErr};
 ghost use Rattle.n2_boardtext.specs.Rows.{cause_text, fault_text, key_text, kind_text, numbers_text, pair_text, part_text, rule_text};
 
 use crate::fault::TextFault;
 use crate::words::{key_name, kind_name};
-use n2_board::{BoardFault, Key, Part, PartKind};
+use n2_parts::{BoardFault, Key, Part, PartKind};
 use n2_text::{put_number, put_text};
 use n2_word::NoMemory;
 
@@ -91,11 +91,14 @@ fn put_cause(out: &mut Vec<u8>, fault: &TextFault) -> Result<(), NoMemory>
 
 /// Appends the row of a fault without its line feed: `board`, what is wrong in lower-case letters,
 /// and where, as `board not toml`, `board missing core 0 image` or `board samename mutex 0 uart 1`.
-/// A part is its array's name and its number there, the board itself `top 0`.
+/// A part is its array's name and its number there, the board itself `top 0`. After want of memory
+/// `out` is as it was.
 #[tactic(auto, unfolding(crate::specs::Rows::fault_text))]
 pub fn put_fault(out: &mut Vec<u8>, fault: &TextFault) -> Result<(), NoMemory>
-    ensures { OnOk result (out.new.items ≡ out.old.items ++ fault_text fault.now) }
+    ensures ok { OnOk result (out.new.items ≡ out.old.items ++ fault_text fault.now) }
+    ensures err { OnErr result (out.new.items ≡ out.old.items) }
 {
-    put_text(out, b"board ")?;
-    put_cause(out, fault)
+    let mut row = Vec::from_slice(*out.allocator(), b"board ").map_err(|_| NoMemory)?;
+    put_cause(&mut row, fault)?;
+    out.extend_from_slice(row.as_slice()).map_err(|_| NoMemory)
 }

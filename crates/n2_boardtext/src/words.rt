@@ -3,7 +3,7 @@
 ghost use Rattle.std.specs.Prelude.{◌≡◌};
 ghost use Rattle.n2_boardtext.specs.Words as spec;
 
-use n2_board::{Key, PartKind};
+use n2_parts::{Key, PartKind};
 
 /// The name of an array of parts; `top` for the board itself.
 pub fn kind_name(kind: PartKind) -> &'static str

@@ -7,7 +7,7 @@ pub appended-append : (told : Option (List ℕ)) (a b : List ℕ) → appended (
 appended-append None a b = refl
 appended-append (Some bytes) a b = ap (λ (l : List ℕ). Some l) (append_assoc bytes a b)
 
--- a front, and then a front of the rest
+-- a front, and then a prefix of the rest
 pub appended-more : (told told-2 told-3 : Option (List ℕ)) (text piece : List ℕ) (i n : ℕ) → told-2 ≡ appended told (take i text) → told-3 ≡ appended told-2 (take n piece) → piece ≡ drop i text → told-3 ≡ appended told (take (i + n) text)
 appended-more told told-2 told-3 text piece i n here next rest =
     next

@@ -20,6 +20,6 @@ IsPart piece (Err e) = Unit {0}
 abbrev pub IsFailing : List ℕ → ℕ → List ℕ → ℕ → List ℕ → Type 0
 IsFailing failing room bytes number piece = Contains failing number ⊎ ((0 < length piece) × (length bytes ≡ room))
 
--- a front of the text is at the end, where the bytes are told
-abbrev pub PutsFront : Option (List ℕ) → Option (List ℕ) → List ℕ → Type 0
-PutsFront before now text = (n : ℕ) × (now ≡ appended before (take n text))
+-- a prefix of the text is at the end, where the bytes are told
+abbrev pub PutsPrefix : Option (List ℕ) → Option (List ℕ) → List ℕ → Type 0
+PutsPrefix before now text = (n : ℕ) × (now ≡ appended before (take n text))

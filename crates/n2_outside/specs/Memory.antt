@@ -1,9 +1,10 @@
 -- What a folder and a sink in memory hold.
 use Rattle.std.specs.Prelude.{ℕ, List}
+use Rattle.n2_outside.specs.Files.{Files}
 
 -- a folder: its files, the numbers of the calls that fail, and how many calls and faults there were
 pub record FolderState : Type 0 where
-  pub files : List (List ℕ × List ℕ)
+  pub files : Files
   pub failing : List ℕ
   pub calls : ℕ
   pub faults : ℕ

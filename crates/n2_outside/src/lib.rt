@@ -2,10 +2,10 @@
 //! written meaning and a count of faults that never falls.
 #![tactic(auto)]
 
-ghost use Rattle.std.specs.Prelude.{◌≡◌, ℕ, ◌≤◌, ◌<◌, ◌-◌, List, Option, [], take, length, MatchResult, OnOk, OnErr};
+ghost use Rattle.std.specs.Prelude.{◌≡◌, ℕ, ◌≤◌, ◌<◌, ◌-◌, List, Option, [], MatchResult, OnOk, OnErr};
 ghost use Rattle.n2_outside.specs.Faults.{HasCause};
-ghost use Rattle.n2_outside.specs.Files.{IsFile};
-ghost use Rattle.n2_outside.specs.Bytes.{appended, IsPart, Puts, PutsFront};
+ghost use Rattle.n2_outside.specs.Files.{Files, IsFile};
+ghost use Rattle.n2_outside.specs.Bytes.{appended, IsPart, Puts, PutsPrefix};
 
 mod memory;
 mod system;
@@ -36,7 +36,7 @@ pub trait Folder {
     ghost use Rattle.n2_outside.specs.FetchFaults.{HasFetchCause};
 
     /// The files by their names, where they are told. They never change.
-    ghost files: { Self → Option (List (List ℕ × List ℕ)) };
+    ghost files: { Self → Option Files };
 
     /// How many fetches failed; it never falls, and stands still at a fetch that gives a file.
     ghost faults: { Self → ℕ };
@@ -59,7 +59,7 @@ pub trait Sink {
     /// How many puts failed; it never falls, and stands still at a put that does not fail.
     ghost faults: { Self → ℕ };
 
-    /// Appends the front of a piece, and answers how many bytes of it, at least one where the piece
+    /// Appends a prefix of a piece, and answers how many bytes of it, at least one where the piece
     /// is not empty. `Failed` appends nothing, and comes only where the count of faults rose.
     fn put(&mut self, piece: &[u8]) -> Result<usize, Failed>
         ensures part { IsPart piece.now result }
@@ -67,11 +67,11 @@ pub trait Sink {
         ensures cause { HasCause (faults self.old) (faults self.new) result };
 }
 
-/// Appends a whole text; an empty one makes no put. `Failed` has appended a front of it, and comes
+/// Appends a whole text; an empty one makes no put. `Failed` has appended a prefix of it, and comes
 /// only where the count of faults rose.
 pub fn put_all<S: Sink>(sink: &mut S, text: &[u8]) -> Result<(), Failed>
     ensures all { OnOk result (S.told sink.new ≡ appended (S.told sink.old) text.now) }
-    ensures front { OnErr result (PutsFront (S.told sink.old) (S.told sink.new) text.now) }
+    ensures prefix { OnErr result (PutsPrefix (S.told sink.old) (S.told sink.new) text.now) }
     ensures empty { text.now ≡ [] → sink.new ≡ sink.old }
     ensures cause { HasCause (S.faults sink.old) (S.faults sink.new) result }
 {

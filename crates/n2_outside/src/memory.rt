@@ -1,6 +1,6 @@
 //! A folder and sinks in memory, which fail on demand.
 
-ghost use Rattle.std.specs.Prelude.{◌≡◌, ℕ, ◌+◌, ◌-◌, ◌<◌, ◌≤◌, ◌^◌, [], ◌++◌, take, length, min, map, Some, None, Err, IfOk, IsErr, IsErrOf, is_err, IsTrue, ◌↔◌, vec_len, MatchResult, string_bytes, option_map};
+ghost use Rattle.std.specs.Prelude.{◌≡◌, ◌-◌, ◌<◌, ◌≤◌, [], length, min, map, Some, None, Err, IfOk, IsErr, IsErrOf, is_err, IsTrue, ◌↔◌, vec_len, MatchResult, string_bytes, option_map};
 ghost use Rattle.std.specs.List.{Contains};
 ghost use Rattle.n2_outside.specs.Faults.{HasCause, counted, next};
 ghost use Rattle.n2_outside.specs.Files.{IsFile, file_at};

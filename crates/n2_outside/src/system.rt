@@ -1,6 +1,6 @@
 //! The real outside: the current folder and standard output. They tell nothing.
 
-ghost use Rattle.std.specs.Prelude.{◌≡◌, ◌≤◌, ◌<◌, ◌+◌, ◌↔◌, ℕ, None, Ok, length, take, vec_len, is_err, IfOk, IfErr, IfSome, IsErr, IsErrOf, IsOkAnd, OnOk, MatchResult};
+ghost use Rattle.std.specs.Prelude.{◌≡◌, ◌≤◌, ◌<◌, ◌+◌, ◌↔◌, ℕ, None, Ok, length, take, is_err, IfOk, IfErr, IfSome, IsErr, IsErrOf, IsOkAnd, OnOk, MatchResult};
 ghost use Rattle.std.specs.Io.KnownBytes.{WriteAppends};
 ghost use Rattle.std.specs.IoError.{error_kind};
 ghost use Rattle.n2_outside.specs.Faults.{HasCause, counted, next};
@@ -50,11 +50,6 @@ fn read_up_to<R: Read + Drop>(alloc: Global, reader: R, most: usize) -> io::Resu
     Ok(bytes)
 }
 
-/// The bytes of a file, of which no more than `most + 1` are read.
-fn read_file<R: Files>(rt: &R, alloc: Global, name: &str, most: usize) -> io::Result<Vec<u8>> {
-    read_up_to(alloc, fs::open(rt, name)?, most)
-}
-
 fn fault_of(error: &io::Error) -> FetchFault
     ensures { result ≡ fault_by (error_kind error.now) }
 {
@@ -86,6 +81,27 @@ fn fetch_answer(
     Err(fault)
 }
 
+/// What a fetch of at most `most` bytes answers to the opening of a file, which is read to its end.
+fn fetch_from<R: Read + Drop>(
+    alloc: Global,
+    opened: io::Result<R>,
+    most: usize,
+    faults: &mut u64,
+) -> Result<Vec<u8>, FetchFault>
+    ensures unopened { IfErr opened (λ e. result ≡ Err (fault_by (error_kind e))) }
+    ensures file { IfOk opened (λ reader. IfSome (R.remaining reader) (λ bytes. IfOk result (λ v. v.items ≡ take (next most) bytes))) }
+    ensures too_long { IfOk opened (λ reader. IfSome (R.remaining reader) (λ bytes. IsErrOf result FetchFault.TooLong → most < length bytes)) }
+    ensures limit { IfOk result (λ v. length v.items ≤ most) }
+    ensures counts { faults.new ≡ counted (is_err result) faults.old }
+    ensures later { faults.old ≤ faults.new }
+{
+    let read = match opened {
+        Ok(reader) => read_up_to(alloc, reader, most),
+        Err(error) => Err(error),
+    };
+    fetch_answer(read, most, faults)
+}
+
 impl<'a, R: Files> Folder for DirFolder<'a, R> {
     ghost files = { λ _. None };
 
@@ -97,8 +113,7 @@ impl<'a, R: Files> Folder for DirFolder<'a, R> {
         ensures kept { OnOk result (self.new ≡ self.old) }
         ensures counts { self.new ≡ counted (is_err result) self.old }
     {
-        let read = read_file(self.rt, alloc, name, most);
-        fetch_answer(read, most, &mut self.faults)
+        fetch_from(alloc, fs::open(self.rt, name), most, &mut self.faults)
     }
 }
 

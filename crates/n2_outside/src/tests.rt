@@ -51,14 +51,14 @@ fn sinks_in_memory_take_what_they_may(rt: HostRuntime) -> Result<(), Fail> {
 }
 
 #[test]
-fn texts_are_put_whole_or_a_front(rt: HostRuntime) -> Result<(), Fail> {
+fn texts_are_put_whole_or_a_prefix(rt: HostRuntime) -> Result<(), Fail> {
     let alloc = rt.alloc();
     let mut whole = MemSink::new(alloc, Vec::new(alloc), 3, unseen(64))?;
     put_all(&mut whole, b"nios2 journal 1\n")?;
     assert_eq!(rt; whole.written(), b"nios2 journal 1\n".as_slice());
-    let mut front = MemSink::new(alloc, [2].to_vec(alloc)?, 10, unseen(4096))?;
-    assert_eq!(rt; put_all(&mut front, b"nios2 journal 1\n"), Err(Failed));
-    assert_eq!(rt; front.written(), b"nios2 jour".as_slice());
+    let mut prefix = MemSink::new(alloc, [2].to_vec(alloc)?, 10, unseen(4096))?;
+    assert_eq!(rt; put_all(&mut prefix, b"nios2 journal 1\n"), Err(Failed));
+    assert_eq!(rt; prefix.written(), b"nios2 jour".as_slice());
     let mut full = MemSink::new(alloc, Vec::new(alloc), 10, unseen(4))?;
     assert_eq!(rt; put_all(&mut full, b"nios2"), Err(Failed));
     assert_eq!(rt; full.written(), b"nios".as_slice());

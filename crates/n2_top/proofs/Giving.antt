@@ -1,12 +1,13 @@
 -- What a call gives, carried to the call above it.
 use Rattle.std.proofs.Common.{◌≡◌, ap, sym, subst, ◌∙◌, Option, Result, Err}
+use Rattle.n2_outside.specs.Files.{Files}
 use Rattle.n2_top.specs.declared.refusal.Refusal.{Refusal}
 use Rattle.n2_top.specs.declared.refusal.Failure.{Failure}
 use Rattle.n2_top.specs.declared.refusal.Failure.TheVariants.{Refused, NoAnswer}
 use Rattle.n2_top.specs.declared.answers.Answer.{Answer}
 use Rattle.n2_top.specs.Commands.{Command}
 use Rattle.n2_top.specs.Asked.{◌>>=◌}
-use Rattle.n2_top.specs.Answers.{Files, OverFiles, reply_to, settled}
+use Rattle.n2_top.specs.Answers.{OverFiles, reply_to, settled}
 use Rattle.n2_top.specs.Calls.{Gives}
 
 -- a step that fails ends all

@@ -1,6 +1,6 @@
 -- What the tool answers: a status, what the journal grows by, and what is written to `out`.
 use Rattle.std.specs.Prelude.{◌≡◌, ℕ, List, [], Option, Some, Bool, false, Result, Ok, Err, nat_lt, ◌||◌, ◌⊎◌, codes}
-use Rattle.n2_outside.specs.Files.{file_at}
+use Rattle.n2_outside.specs.Files.{Files, file_at}
 use Rattle.n2_flat.specs.Machine.{plain}
 use Rattle.n2_top.specs.declared.answers.Answer.{Answer}
 use Rattle.n2_top.specs.declared.refusal.Refusal.{Refusal}
@@ -9,10 +9,6 @@ use Rattle.n2_top.specs.Commands.{Command, Faulty, Unbuilt, Plain, command_of, r
 use Rattle.n2_top.specs.Refusals.{status_of, row_of}
 use Rattle.n2_top.specs.Asked.{Asked, PlainRun, ◌>>=◌}
 use Rattle.n2_top.specs.Plain.{asked_plain, plain_answer}
-
--- files by their names
-abbrev pub Files : Type 0
-Files = List (List ℕ × List ℕ)
 
 -- what a command asks of some files
 abbrev pub asked_of : Command → Files → Result Asked Refusal

@@ -1,6 +1,7 @@
 -- What calls that may be refused say of the definitions.
 use Rattle.std.specs.Prelude.{◌≡◌, ℕ, ◌≤◌, Option, Result, Ok, Err, OnOk, IsErrOf, ⊤}
 use Rattle.n2_outside.specs.Faults.{Rose}
+use Rattle.n2_outside.specs.Files.{Files}
 use Rattle.n2_board.specs.declared.placement.OpenFault.{OpenFault}
 use Rattle.n2_board.specs.declared.placement.OpenFault.TheVariants.{NoMemory as OpenNoMemory}
 use Rattle.n2_flat.specs.declared.machine.PlainFault.{PlainFault}
@@ -10,7 +11,6 @@ use Rattle.n2_top.specs.declared.refusal.Refusal.TheVariants.{Misfit, UnbuiltWor
 use Rattle.n2_top.specs.declared.refusal.Failure.{Failure}
 use Rattle.n2_top.specs.declared.refusal.Failure.TheVariants.{Refused, NoAnswer}
 use Rattle.n2_top.specs.declared.refusal.NoAnswer.TheVariants.{ReadFault, NoMemory}
-use Rattle.n2_top.specs.Answers.{Files}
 
 -- a call gives the value that is defined, as it is seen, or is refused as it is; a read fault and want
 -- of memory may come in place of both

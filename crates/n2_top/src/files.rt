@@ -1,11 +1,10 @@
 //! The files that a command reads, and the images in them.
 
 ghost use Rattle.std.specs.Prelude.{◌≡◌, ◌≢◌, ◌≤◌, ◌<◌, ◌^◌, Some, Ok, Err, length, IfOk, IfErr};
-ghost use Rattle.n2_outside.specs.Files.{file_at};
+ghost use Rattle.n2_outside.specs.Files.{Files, file_at};
 ghost use Rattle.n2_elf.specs.Reading.{IsSized};
 ghost use Rattle.n2_top.specs.Refusals.{limit_of};
 ghost use Rattle.n2_top.specs.Asked.{file_of, image_of, image_in as image_of_core};
-ghost use Rattle.n2_top.specs.Answers.{Files};
 ghost use Rattle.n2_top.specs.Calls.{Gives, LeavesFolder, ReadFails};
 
 use crate::refusal::{Failure, NoAnswer, Refusal, Role};

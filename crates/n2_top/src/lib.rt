@@ -10,7 +10,7 @@ mod rows;
 
 ghost use Rattle.std.specs.Prelude.{◌≡◌, ◌≢◌, ◌<◌, ◌≤◌, ◌⊎◌, [], Ok, Err, map, string_bytes, IsTrue, false};
 ghost use Rattle.n2_outside.specs.Faults.{Rose};
-ghost use Rattle.n2_outside.specs.Bytes.{appended, PutsFront};
+ghost use Rattle.n2_outside.specs.Bytes.{appended, PutsPrefix};
 ghost use Rattle.n2_top.specs.Commands.{command_of, reads_files, writes_journal};
 ghost use Rattle.n2_top.specs.Answers.{ForAnswer, read_fault, is_final};
 
@@ -24,9 +24,9 @@ fn put_answer<S: Sink, L: Sink>(answer: &Answer, out: &mut S, journal: &mut L) -
     requires { answer.now.status ≢ 7 }
     ensures put { result ≢ 7 → (result ≡ answer.now.status) × (S.told out.new ≡ appended (S.told out.old) answer.now.report) × (L.told journal.new ≡ appended (L.told journal.old) answer.now.journal) }
     ensures kept { result ≢ 7 → (S.faults out.new ≡ S.faults out.old) × (L.faults journal.new ≡ L.faults journal.old) }
-    ensures front { result ≡ 7 →
-        (Rose (L.faults journal.old) (L.faults journal.new) × PutsFront (L.told journal.old) (L.told journal.new) answer.now.journal × (out.new ≡ out.old))
-        ⊎ (Rose (S.faults out.old) (S.faults out.new) × PutsFront (S.told out.old) (S.told out.new) answer.now.report × (L.told journal.new ≡ appended (L.told journal.old) answer.now.journal)) }
+    ensures prefix { result ≡ 7 →
+        (Rose (L.faults journal.old) (L.faults journal.new) × PutsPrefix (L.told journal.old) (L.told journal.new) answer.now.journal × (out.new ≡ out.old))
+        ⊎ (Rose (S.faults out.old) (S.faults out.new) × PutsPrefix (S.told out.old) (S.told out.new) answer.now.report × (L.told journal.new ≡ appended (L.told journal.old) answer.now.journal)) }
     ensures later { (S.faults out.old ≤ S.faults out.new) × (L.faults journal.old ≤ L.faults journal.new) }
     ensures empty { answer.now.journal ≡ [] → journal.new ≡ journal.old }
 {
@@ -51,7 +51,7 @@ fn put_answer<S: Sink, L: Sink>(answer: &Answer, out: &mut S, journal: &mut L) -
 ///
 /// Over a folder that tells its files, or at a command that reads none, every status but 6, 7 and 8 is
 /// that of the answer to the words; `journal` grows by the answer's journal, and then `out` by its
-/// report. With 6 `out` grows by the row `read fault`. With 7 a front of a text was put, and nothing
+/// report. With 6 `out` grows by the row `read fault`. With 7 a prefix of a text was put, and nothing
 /// after it: where a put to `journal` failed, `out` is as it was. With 8 both are as they were. All
 /// texts are made before the first byte is put. A command that reads no file leaves the folder as it
 /// was, and one that is refused, or that makes no journal, leaves `journal` as it was.
@@ -71,10 +71,10 @@ pub fn tool_top<F: Folder, S: Sink, L: Sink>(
 
     ensures fetch_failed { result ≡ 6 → Rose (F.faults folder.old) (F.faults folder.new) × (S.told out.new ≡ appended (S.told out.old) read_fault) }
     ensures put_failed { result ≡ 7 → (Rose (L.faults journal.old) (L.faults journal.new) × (out.new ≡ out.old)) ⊎ Rose (S.faults out.old) (S.faults out.new) }
-    ensures front { ForAnswer (F.files folder.old) (map string_bytes words.now) (λ a. result ≡ 7 →
-        (Rose (L.faults journal.old) (L.faults journal.new) × PutsFront (L.told journal.old) (L.told journal.new) a.journal × (out.new ≡ out.old))
-        ⊎ (Rose (S.faults out.old) (S.faults out.new) × PutsFront (S.told out.old) (S.told out.new) a.report × (L.told journal.new ≡ appended (L.told journal.old) a.journal))
-        ⊎ (Rose (S.faults out.old) (S.faults out.new) × PutsFront (S.told out.old) (S.told out.new) read_fault × (journal.new ≡ journal.old) × Rose (F.faults folder.old) (F.faults folder.new))) }
+    ensures prefix { ForAnswer (F.files folder.old) (map string_bytes words.now) (λ a. result ≡ 7 →
+        (Rose (L.faults journal.old) (L.faults journal.new) × PutsPrefix (L.told journal.old) (L.told journal.new) a.journal × (out.new ≡ out.old))
+        ⊎ (Rose (S.faults out.old) (S.faults out.new) × PutsPrefix (S.told out.old) (S.told out.new) a.report × (L.told journal.new ≡ appended (L.told journal.old) a.journal))
+        ⊎ (Rose (S.faults out.old) (S.faults out.new) × PutsPrefix (S.told out.old) (S.told out.new) read_fault × (journal.new ≡ journal.old) × Rose (F.faults folder.old) (F.faults folder.new))) }
     ensures no_memory { result ≡ 8 → out.new ≡ out.old }
 
     ensures refused { 3 ≤ result → result ≢ 7 → journal.new ≡ journal.old }

@@ -1,7 +1,7 @@
 //! `plain FILE STEPS`: an image on the plain board, without caches.
 
 ghost use Rattle.std.specs.Prelude.{◌≡◌, ◌<◌, ℕ, ◌∷◌, [], Some, None, IfOk};
-ghost use Rattle.n2_outside.specs.Files.{file_at};
+ghost use Rattle.n2_outside.specs.Files.{Files, file_at};
 ghost use Rattle.n2_elf.specs.Reading.{IsSized};
 ghost use Rattle.n2_board.specs.Placement.{open_fault};
 ghost use Rattle.n2_flat.specs.PlainBoard.{plain_board, plain_map};
@@ -9,7 +9,7 @@ ghost use Rattle.n2_flat.specs.Machine.{plain};
 ghost use Rattle.n2_top.specs.Commands.{Plain};
 ghost use Rattle.n2_top.specs.Asked.{PlainRun};
 ghost use Rattle.n2_top.specs.Plain.{asked_plain, plain_answer};
-ghost use Rattle.n2_top.specs.Answers.{Files, reply_to};
+ghost use Rattle.n2_top.specs.Answers.{reply_to};
 ghost use Rattle.n2_top.specs.Calls.{Gives, LeavesFolder, ReadFails};
 
 use crate::answers::Answer;

@@ -1,5 +1,5 @@
 -- The interrupt numbers of a valid board's devices are below 32.
-use Rattle.std.proofs.Common.{◌≡◌, ℕ, true, leb, [], ◌∷◌, length, Option, Some, None, slice_get, sym, ap, ◌∙◌, arith}
+use Rattle.std.proofs.Common.{◌≡◌, ◌<◌, ℕ, zero, suc, List, true, leb, [], ◌∷◌, length, Option, Some, None, slice_get, sym, ap, ◌∙◌, arith}
 use Rattle.std.specs.Prelude.{option_and_then}
 use Rattle.n2_parts.specs.declared.board.Board.{Board}
 use Rattle.n2_parts.specs.declared.board.MailboxRow.{MailboxRow}
@@ -10,7 +10,14 @@ use Rattle.n2_parts.specs.declared.board.PartKind.TheVariants.{Mailbox, Timer, U
 use Rattle.n2_parts.specs.Numbers.{is_base, is_between, is_irq, mailbox_numbers, timer_numbers, uart_numbers, number_fault}
 use Rattle.n2_parts.specs.Parts.{part_of}
 use Rattle.n2_parts.specs.Valid.{IsValid}
-use Rattle.n2_parts.proofs.Sound.{keeps, there, all_good}
+use Rattle.n2_parts.proofs.Sound.{keeps, all_good}
+
+-- a row that is there has a place among the rows
+there : {A : Type 0} (rows : List A) (i : ℕ) (row : A) → slice_get rows i ≡ Some row → i < length rows
+there [] zero row e = absurd cc
+there [] (suc i) row e = absurd cc
+there (x ∷ rows) zero row e = omega arith
+there (x ∷ rows) (suc i) row e = omega (arith, there rows i row e)
 
 -- of both sides of a mailbox
 mailbox_irqs : (b : Board) → IsValid b → (i : ℕ) (row : MailboxRow) → slice_get b.mailbox i ≡ Some row → (is_irq row.send_irq ≡ true) × (is_irq row.receive_irq ≡ true)

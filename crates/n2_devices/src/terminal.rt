@@ -30,7 +30,7 @@ impl Input {
     fn open(alloc: Global, bytes: &[u8]) -> Result<Input, NoMemory>
         ensures { IfOk result (λ input. input ≡ bytes.now) }
     {
-        let bytes = Items::from_bytes(alloc, bytes)?;
+        let bytes = Items::from_slice(alloc, bytes)?;
         Ok(Input { bytes, next: 0 })
     }
 

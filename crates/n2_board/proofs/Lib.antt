@@ -8,3 +8,4 @@ pub mod Tables
 pub mod Memories
 pub mod Named
 pub mod Reached
+pub mod Fitting

@@ -1,7 +1,9 @@
 -- Guards have one owner.
 use Rattle.std.proofs.Common.{◌≡◌, ℕ, IsTrue, sym, ◌∙◌}
 use Rattle.std.proofs.lemmas.Bool.{eqb-true, and_parts, false≢true}
-use Rattle.n2_board.specs.Guards.{Holder, ByCore, ByMailbox, owns_mutex, owns_region}
+use Rattle.n2_board.specs.declared.guards.Holder.{Holder}
+use Rattle.n2_board.specs.declared.guards.Holder.TheVariants.{ByCore, ByMailbox}
+use Rattle.n2_board.specs.Guards.{owns_mutex, owns_region}
 
 -- the cpuid of the core that owns a mutex
 pub one_cpuid : (register a b : ℕ) → IsTrue (owns_mutex register a) → IsTrue (owns_mutex register b) → a ≡ b

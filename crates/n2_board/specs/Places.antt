@@ -5,7 +5,7 @@ use Rattle.n2_parts.specs.declared.board.Part.{Part}
 use Rattle.n2_parts.specs.declared.board.PartKind.{PartKind}
 use Rattle.n2_parts.specs.declared.board.PartKind.TheVariants as kinds
 use Rattle.n2_parts.specs.declared.spans.Spans.{Spans}
-use Rattle.n2_parts.specs.Parts.{count_of, part_of}
+use Rattle.n2_parts.specs.Parts.{count_of, part_of, devices}
 use Rattle.n2_parts.specs.Rules.{holds, spans_of}
 use Rattle.n2_board.specs.declared.places.Place.{Place}
 use Rattle.n2_board.specs.declared.places.Place.TheVariants.{Memory, Device, Nothing}
@@ -42,3 +42,7 @@ place_at (Words part first) from address = Device part (first + (address - from)
 unfoldable pub place_in : List PlaceZone → ℕ → Place
 place_in [] address = Nothing
 place_in (zone ∷ zones) address = if holds zone.bytes address then place_at zone.area zone.bytes.from address else place_in zones address
+
+-- the places of all memories and devices of a board
+abbrev pub places_of : Board → List PlaceZone
+places_of b = place_zones b (kinds.Memory ∷ devices)

@@ -12,7 +12,7 @@ ghost use Rattle.n2_board.specs.Placement.{open_fault};
 use crate::classes::{Class, LineZone, line_zones};
 use crate::finder::Finder;
 use crate::placement::{OpenFault, first_placement_fault};
-use crate::places::{Area, Place, PlaceZone, place_zones};
+use crate::places::{Place, Places};
 use crate::segments::{LoadedSegment, loaded_segments};
 use crate::table::{ClassTable, class_found, class_table};
 use n2_elf::Image;
@@ -31,8 +31,7 @@ pub struct Layout {
     classes: ClassTable,
     lines: Vec<LineZone>,
     line_finder: Finder,
-    places: Vec<PlaceZone>,
-    place_finder: Finder,
+    places: Places,
 }
 
 impl Model for Layout {
@@ -45,13 +44,12 @@ impl Model for Layout {
 
     ghost Value = { AddressMap };
 
-    ghost view = { λ l. record { lines = l.lines.items; places = l.places.items } };
+    ghost view = { λ l. record { lines = l.lines.items; places = l.places } };
 
     ghost invariant = { λ l. (line_count l.memories < 2 ^ 32)
         × ((line : ℕ) → IfSome (slice_get l.classes (line_place l.memories line)) (λ class. class ≡ class_in l.lines.items line))
-        × ((address : ℕ) → MatchOption (slice_get l.classes (line_place l.memories (address / 32))) (place_in l.places.items address ≢ Memory) (λ _. place_in l.places.items address ≡ Memory))
-        × (l.line_finder.0 ≡ map (λ zone. zone.lines) l.lines.items)
-        × (l.place_finder.0 ≡ map (λ zone. zone.bytes) l.places.items) };
+        × ((address : ℕ) → MatchOption (slice_get l.classes (line_place l.memories (address / 32))) (place_in l.places address ≢ Memory) (λ _. place_in l.places address ≡ Memory))
+        × (l.line_finder.0 ≡ map (λ zone. zone.lines) l.lines.items) };
 }
 
 fn line_spans(alloc: Global, zones: &[LineZone]) -> Result<Vec<Span>, NoMemory>
@@ -61,42 +59,6 @@ fn line_spans(alloc: Global, zones: &[LineZone]) -> Result<Vec<Span>, NoMemory>
     match spans {
         Ok(spans) => Ok(spans),
         Err(_) => Err(NoMemory),
-    }
-}
-
-fn place_spans(alloc: Global, zones: &[PlaceZone]) -> Result<Vec<Span>, NoMemory>
-    ensures { IfOk result (λ spans. spans.items ≡ map (λ zone. zone.bytes) zones.now) }
-{
-    let spans: Result<Vec<Span>, _> = zones.iter().map(|zone| zone.bytes).collect(alloc);
-    match spans {
-        Ok(spans) => Ok(spans),
-        Err(_) => Err(NoMemory),
-    }
-}
-
-fn place_at(area: Area, from: u64, address: u32) -> Place
-    ensures { result ≡ places.place_at area from address }
-{
-    match area {
-        Area::InMemory => Place::Memory,
-        Area::Words { part, first } => {
-            let words = u64::from(address).saturating_sub(from) / 4;
-            let offset = u32::from(first) + words as u32;
-            Place::Device { part, offset }
-        }
-    }
-}
-
-/// The place of an address in the zone of that number.
-fn place_found(zones: &[PlaceZone], address: u32, found: Option<usize>) -> Place
-    ensures { result ≡ unwrap_or (option_map (λ zone. places.place_at zone.area zone.bytes.from address) (option_and_then (λ i. slice_get zones.now i) found)) Place.Nothing }
-{
-    match found {
-        None => Place::Nothing,
-        Some(i) => match zones.get(i) {
-            None => Place::Nothing,
-            Some(zone) => place_at(zone.area, zone.bytes.from, address),
-        },
     }
 }
 
@@ -111,15 +73,13 @@ fn index(alloc: Global, board: &Board, segments: &[LoadedSegment]) -> Result<Lay
     let line_finder = Finder::open(alloc, &line_spans(alloc, &lines)?)?;
     let memories = copy_memories(alloc, board.memory.as_slice())?;
     let classes = class_table(alloc, memories.as_slice(), &line_finder, &lines)?;
-    let places = place_zones(alloc, board)?;
-    let place_finder = Finder::open(alloc, &place_spans(alloc, &places)?)?;
+    let places = Places::open(alloc, board)?;
     Ok(Layout {
         memories,
         classes,
         lines,
         line_finder,
         places,
-        place_finder,
     })
 }
 
@@ -165,8 +125,7 @@ impl Layout {
     pub(crate) fn place_searched(&self, address: u32) -> Place
         ensures { result ≡ spec.place self.now address }
     {
-        let found = self.place_finder.find(u64::from(address));
-        place_found(self.places.as_slice(), address, found)
+        self.places.find(address)
     }
 
     /// The class of a line.

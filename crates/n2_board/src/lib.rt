@@ -4,6 +4,7 @@
 mod access;
 mod classes;
 mod finder;
+mod guards;
 pub mod laws;
 mod layout;
 mod overlaps;
@@ -14,6 +15,7 @@ mod table;
 
 pub use access::{Direction, Route, Target, Violation};
 pub use classes::Class;
+pub use guards::{Guard, Holder};
 pub use layout::Layout;
 pub use n2_parts::{
     ARRAYS, Act, Board, BoardFault, CoreRow, DeviceEvent, DumpRow, Key, Kind, MailboxRow,
@@ -21,7 +23,7 @@ pub use n2_parts::{
     TimerRow, UartRow, valid,
 };
 pub use placement::OpenFault;
-pub use places::Place;
+pub use places::{Place, Places};
 
 #[cfg(test)]
 mod tests;

@@ -4,10 +4,10 @@ ghost use Rattle.std.specs.Prelude.{◌≡◌, ◌≢◌, ◌↔◌, ◌<◌, �
 ghost use Rattle.n2_elf.specs.Reading.{magic, has_magic, raw_image, elf, IsSized};
 ghost use Rattle.n2_elf.specs.Writing.{IsWritable, file_of};
 
-use crate::reading::{check_header, check_programs, load, word_at};
+use crate::reading::{check_header, check_programs, load};
 use crate::writing::{put_contents, put_header, put_programs};
 use n2_text::Items;
-use n2_word::NoMemory;
+use n2_word::{NoMemory, word_at};
 use std::alloc::Global;
 
 /// Bytes that stand at an address of memory, and how much memory they are part of: behind the

@@ -9,30 +9,8 @@ ghost use Rattle.n2_elf.specs.Reading as spec;
 
 use crate::image::{ElfFault, Image, Segment};
 use n2_text::Items;
-use n2_word::{NoMemory, number_of};
+use n2_word::{NoMemory, behind, byte_at, word_at};
 use std::alloc::Global;
-
-/// The bytes from an offset on.
-fn behind(bytes: &[u8], offset: usize) -> &[u8]
-    ensures { result.now ≡ drop offset bytes.now }
-{
-    if offset < bytes.len() {
-        &bytes[offset..]
-    } else {
-        &bytes[bytes.len()..]
-    }
-}
-
-/// The byte at an offset, or 0 past the end.
-fn byte_at(bytes: &[u8], offset: usize) -> u8
-    ensures { result ≡ fields.byte_at bytes.now offset }
-{
-    if offset < bytes.len() {
-        bytes[offset]
-    } else {
-        0
-    }
-}
 
 /// The number that two bytes at an offset are, with zeros past the end.
 fn half_at(bytes: &[u8], offset: usize) -> u16
@@ -43,13 +21,6 @@ fn half_at(bytes: &[u8], offset: usize) -> u16
         [low] => u16::from(*low),
         [] => 0,
     }
-}
-
-/// The number that four bytes at an offset are, with zeros past the end.
-pub fn word_at(bytes: &[u8], offset: usize) -> u32
-    ensures { result ≡ fields.word_at bytes.now offset }
-{
-    number_of(behind(bytes, offset))
 }
 
 /// A fault, unless a condition holds.

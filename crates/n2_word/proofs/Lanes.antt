@@ -123,3 +123,11 @@ pub aligned_lane : (address : ℕ) (width : Width) → IsTrue (is_aligned addres
 aligned_lane address Byte h = grind (arith, nat_tests)
 aligned_lane address Half h = grind (arith, nat_tests)
 aligned_lane address Word h = grind (arith, nat_tests)
+
+-- four bytes merged one by one make their word
+pub merged-four : (word a b c d : ℕ) → a < 2 ^ 8 → b < 2 ^ 8 → c < 2 ^ 8 → d < 2 ^ 8 → merged (merged (merged (merged word 0 Byte a) 1 Byte b) 2 Byte c) 3 Byte d ≡ number_of (a ∷ b ∷ c ∷ d ∷ [])
+merged-four word a b c d ha hb hc hd =
+    let e0 = bytes_of-merged word 0 Byte a (omega arith) refl in
+    let e1 = bytes_of-merged (merged word 0 Byte a) 1 Byte b (omega arith) refl ∙ ap (λ (bytes : List ℕ). put_at bytes 1 (take 1 (bytes_of b))) e0 in
+    let e2 = bytes_of-merged (merged (merged word 0 Byte a) 1 Byte b) 2 Byte c (omega arith) refl ∙ ap (λ (bytes : List ℕ). put_at bytes 2 (take 1 (bytes_of c))) e1 in
+    ap (λ (bytes : List ℕ). number_of (put_at bytes 3 (take 1 (bytes_of d)))) e2 ∙ omega arith

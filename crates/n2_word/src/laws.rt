@@ -1,20 +1,21 @@
 //! Laws on words, lanes and lines that caches, bus and memories stand on.
 
-ghost use Rattle.std.specs.Prelude.{◌≡◌, ◌≢◌, ℕ, ◌+◌, ◌*◌, ◌/◌, ◌%◌, ◌^◌, ◌<◌, ◌≤◌, ◌⊎◌, List, IsTrue, length, take, slice_index};
+ghost use Rattle.std.specs.Prelude.{◌≡◌, ◌≢◌, ℕ, ◌+◌, ◌*◌, ◌/◌, ◌%◌, ◌^◌, ◌<◌, ◌≤◌, ◌⊎◌, [], ◌∷◌, List, IsTrue, length, take, slice_index};
 ghost use Rattle.n2_word.specs.declared.Width.{Width};
-ghost use Rattle.n2_word.specs.declared.Width.TheVariants.{Word};
+ghost use Rattle.n2_word.specs.declared.Width.TheVariants.{Byte, Word};
 ghost use Rattle.n2_word.specs.Words.{size, is_aligned, lane_of, bytes_of, number_of, put_at, extracted, merged, low_bits};
 ghost use Rattle.n2_word.specs.Lines.{without_bypass, line, base_of, set_for, place_in_line, read_in_line, written_in_line};
 
 /// A merged word has the low bytes of the value from the lane on, and the word's own bytes
 /// elsewhere. What is read at that place is the value's low bits, and what is read beside it, in
-/// whatever width, is as it was.
+/// whatever width, is as it was. Four bytes merged one by one make their word.
 pub fn merged_words()
     ensures bytes { (word lane : ℕ) (width : Width) (value : ℕ) → lane < 4 → IsTrue (is_aligned lane width) → bytes_of (merged word lane width value) ≡ put_at (bytes_of word) lane (take (size width) (bytes_of value)) }
     ensures small { (word lane : ℕ) (width : Width) (value : ℕ) → lane < 4 → IsTrue (is_aligned lane width) → merged word lane width value < 2 ^ 32 }
     ensures there { (word lane : ℕ) (width : Width) (value : ℕ) → lane < 4 → IsTrue (is_aligned lane width) → extracted (merged word lane width value) lane width ≡ low_bits width value }
     ensures beside { (word lane : ℕ) (width : Width) (value lane' : ℕ) (width' : Width) → lane < 4 → IsTrue (is_aligned lane width) → (lane' + size width' ≤ lane) ⊎ (lane + size width ≤ lane') → extracted (merged word lane width value) lane' width' ≡ extracted word lane' width' }
     ensures whole { (word value : ℕ) → value < 2 ^ 32 → merged word 0 Word value ≡ value }
+    ensures four { (word a b c d : ℕ) → a < 2 ^ 8 → b < 2 ^ 8 → c < 2 ^ 8 → d < 2 ^ 8 → merged (merged (merged (merged word 0 Byte a) 1 Byte b) 2 Byte c) 3 Byte d ≡ number_of (a ∷ b ∷ c ∷ d ∷ []) }
 {}
 
 /// A word is its four bytes, and what is read from it fits its width.

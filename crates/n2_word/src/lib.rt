@@ -1,12 +1,14 @@
 //! Words of 32 bits, the lanes of their bytes, and lines of 32 bytes.
 #![tactic(auto)]
 
-ghost use Rattle.std.specs.Prelude.{◌≡◌, ◌<◌, IsTrue, take};
+ghost use Rattle.std.specs.Prelude.{◌≡◌, ◌<◌, IsTrue};
 ghost use Rattle.n2_word.specs.Words.{is_aligned, lane_of, extracted, merged, signed_byte, signed_half, size};
-ghost use Rattle.n2_word.specs.Words as words;
 ghost use Rattle.n2_word.specs.Lines.{line, set_for};
 
+mod bytes;
 pub mod laws;
+
+pub use bytes::{behind, byte_at, bytes_of, word_at};
 
 /// No memory was left.
 #[derive(Clone, Copy, Debug, PartialEq, Eq)]
@@ -101,28 +103,6 @@ pub fn merge(word: u32, lane: u32, width: Width, value: u32) -> u32
         Width::Byte => merge_byte(word, lane, value),
         Width::Half => merge_half(word, lane, value),
         Width::Word => value,
-    }
-}
-
-/// The four bytes of a word, the lowest first.
-#[inline(always)]
-pub fn bytes_of(word: u32) -> [u8; 4]
-    ensures { result ≡ words.bytes_of word }
-{
-    word.to_le_bytes()
-}
-
-/// The number that bytes stand for, the lowest first. Of more than four bytes the first four count.
-#[inline(always)]
-pub fn number_of(bytes: &[u8]) -> u32
-    ensures { result ≡ words.number_of (take 4 bytes.now) }
-{
-    match bytes {
-        [a, b, c, d, ..] => u32::from_le_bytes([*a, *b, *c, *d]),
-        [a, b, c] => u32::from_le_bytes([*a, *b, *c, 0]),
-        [a, b] => u32::from_le_bytes([*a, *b, 0, 0]),
-        [a] => u32::from(*a),
-        [] => 0,
     }
 }
 
@@ -221,6 +201,7 @@ mod tests {
         assert_eq!(rt; extract(word, 0, Width::Word), word);
         assert_eq!(rt; merge(word, 0, Width::Word, 0xdead_beef), 0xdead_beef);
         assert_eq!(rt; bytes_of(word), [0x11, 0x22, 0x33, 0x44]);
-        assert_eq!(rt; number_of(&[0x34, 0x12]), 0x1234);
+        assert_eq!(rt; word_at(&[0x12, 0x34, 0x56], 1), 0x5634);
+        assert_eq!(rt; (byte_at(&[0x12], 0), byte_at(&[0x12], 1)), (0x12, 0));
     }
 }

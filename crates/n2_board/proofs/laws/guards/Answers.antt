@@ -1,18 +1,20 @@
 use Rattle.std.proofs.Common.{◌≡◌, ℕ, IsTrue, refl, ap}
 use Rattle.std.proofs.lemmas.Bool.{eqb-true, eq-eqb, false≢true}
-use Rattle.n2_board.specs.Guards.{Guard, OfMutex, OfRegion, same_guard}
+use Rattle.n2_board.specs.declared.guards.Guard.{Guard}
+use Rattle.n2_board.specs.declared.guards.Guard.TheVariants.{Mutex, Passed}
+use Rattle.n2_board.specs.Guards.{same_guard}
 use Rattle.n2_board.proofs.Owners.{one_cpuid}
 use Rattle.n2_board.proofs.laws.guards.Goals as goal
 
 one : (g h : Guard) → IsTrue (same_guard g h) → g ≡ h
-one (OfMutex m) (OfMutex n) e = ap (λ (k : ℕ). OfMutex k) (eqb-true m n e)
-one (OfMutex m) (OfRegion s) e = absurd (false≢true e)
-one (OfRegion r) (OfMutex n) e = absurd (false≢true e)
-one (OfRegion r) (OfRegion s) e = ap (λ (k : ℕ). OfRegion k) (eqb-true r s e)
+one (Mutex m) (Mutex n) e = ap (λ (k : ℕ). Mutex k) (eqb-true m n e)
+one (Mutex m) (Passed s) e = absurd (false≢true e)
+one (Passed r) (Mutex n) e = absurd (false≢true e)
+one (Passed r) (Passed s) e = ap (λ (k : ℕ). Passed k) (eqb-true r s e)
 
 itself : (g : Guard) → IsTrue (same_guard g g)
-itself (OfMutex m) = eq-eqb m m refl
-itself (OfRegion r) = eq-eqb r r refl
+itself (Mutex m) = eq-eqb m m refl
+itself (Passed r) = eq-eqb r r refl
 
 pub returns-clause-equal : goal.returns-clause-equal
 returns-clause-equal c = one

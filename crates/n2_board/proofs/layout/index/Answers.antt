@@ -19,8 +19,8 @@ below n le = omega arith
 pub line_zones-requires : goal.line_zones-requires
 line_zones-requires c = valid_small c.args.board.now c.requires.valid
 
-pub place_zones-requires : goal.place_zones-requires
-place_zones-requires c = valid_small c.args.board.now c.requires.valid
+pub open-requires-2 : goal.open-requires-2
+open-requires-2 c = valid_small c.args.board.now c.requires.valid
 
 pub class_table-requires : goal.class_table-requires
 class_table-requires c =
@@ -45,9 +45,8 @@ invariant_of-result c =
     in (
       subst (λ (r : List MemoryRow). line_count r < 2 ^ 32) (sym rows) (below (line_count c.args.board.now.memory) (few_lines c.args.board.now c.requires.valid)),
       table_right (class_in lines) c.in_ok-classes.classes c.in_ok-memories.memories table,
-      subst (λ (r : List MemoryRow). (address : ℕ) → MatchOption (slice_get c.in_ok-classes.classes (line_place r (address / 32))) (place_in c.in_ok-places.places.items address ≢ places.Memory) (λ _. place_in c.in_ok-places.places.items address ≡ places.Memory)) (sym rows)
+      subst (λ (r : List MemoryRow). (address : ℕ) → MatchOption (slice_get c.in_ok-classes.classes (line_place r (address / 32))) (place_in c.in_ok-places.places address ≢ places.Memory) (λ _. place_in c.in_ok-places.places address ≡ places.Memory)) (sym rows)
           (subst (λ (zs : List PlaceZone). (address : ℕ) → MatchOption (slice_get c.in_ok-classes.classes (line_place c.args.board.now.memory (address / 32))) (place_in zs address ≢ places.Memory) (λ _. place_in zs address ≡ places.Memory)) (sym c.in_ok-places.ensures)
           (table_there (class_in lines) c.in_ok-classes.classes c.args.board.now c.requires.valid (table ∙ ap (values (class_in lines)) rows))),
       c.in_ok-line_finder.ensures ∙ c.deref-2.ensures.value ∙ c.in_ok-line_spans.ensures ∙ ap (map (λ (zone : LineZone). zone.lines)) c.deref.ensures.value,
-      c.in_ok-place_finder.ensures ∙ c.deref-5.ensures.value ∙ c.in_ok-place_spans.ensures ∙ ap (map (λ (zone : PlaceZone). zone.bytes)) c.deref-4.ensures.value,
     )

@@ -1,0 +1,4 @@
+pub mod Wiring
+pub mod Transfer
+pub mod Opened
+pub mod Ranges

@@ -248,6 +248,3 @@ pub fn extended(value: u32, width: Width, signed: bool) -> u32
         _ => low_bits(value, width),
     }
 }
-
-#[cfg(test)]
-mod tests;

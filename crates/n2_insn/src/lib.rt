@@ -398,6 +398,3 @@ fn composed_word(insn: Insn) -> u32
         Insn::Sync => r_type(0, 0, 0, 0x36, 0),
     }
 }
-
-#[cfg(test)]
-mod tests;

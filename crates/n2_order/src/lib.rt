@@ -4,8 +4,6 @@
 mod chooser;
 pub mod laws;
 mod lists;
-#[cfg(test)]
-mod tests;
 mod words;
 
 pub use chooser::Chooser;

@@ -81,6 +81,3 @@ pub fn put_all<S: Sink>(sink: &mut S, text: &[u8]) -> Result<(), Failed>
     }
     Ok(())
 }
-
-#[cfg(test)]
-mod tests;

@@ -9,6 +9,3 @@ mod writing;
 
 pub use image::{ElfFault, Image, Segment};
 pub use naming::put_fault;
-
-#[cfg(test)]
-mod tests;

@@ -22,6 +22,3 @@ pub use parts::{ARRAYS, DEVICES, count_of, row};
 pub use spans::{IN_PLACES, Span, Spans, bytes_from, is_inside, spans_of};
 pub use stops::{Act, Kind, Refusal, Stop};
 pub use validity::valid;
-
-#[cfg(test)]
-mod tests;

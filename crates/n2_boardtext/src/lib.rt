@@ -16,6 +16,3 @@ pub use fault::TextFault;
 pub use reading::read;
 pub use rows::put_fault;
 pub use words::{key_name, kind_name};
-
-#[cfg(test)]
-mod tests;

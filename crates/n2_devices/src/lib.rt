@@ -266,6 +266,3 @@ fn write_mailbox(mailbox: &mut Mailbox, offset: u32, value: u32) -> bool
         mailbox.write(Side::Receive, offset - 4, value)
     }
 }
-
-#[cfg(test)]
-mod tests;

@@ -24,6 +24,3 @@ pub use n2_parts::{
 };
 pub use placement::OpenFault;
 pub use places::{Place, Places};
-
-#[cfg(test)]
-mod tests;

@@ -1,14 +1,13 @@
 -- The words of a line among all words.
-use Rattle.std.proofs.Common.{◌≡◌, ◌≢◌, ℕ, ◌+◌, ◌*◌, ◌/◌, ◌%◌, ◌<◌, ◌≤◌, List, ◌++◌, length, take, drop, get_or, slice_index, slice_set, ap, sym, subst, ◌∙◌, append_assoc, arith, length-take, length-drop, get_or-take, get_or-drop}
+use Rattle.std.proofs.Common.{◌≡◌, ℕ, ◌+◌, ◌*◌, ◌/◌, ◌%◌, ◌<◌, ◌≤◌, List, ◌++◌, length, take, drop, get_or, slice_index, slice_set, ap, sym, subst, ◌∙◌, append_assoc, arith, length-take, length-drop, get_or-take, get_or-drop}
 use Rattle.std.proofs.lemmas.List.{get_or_read, take-append-drop, drop-drop, take-set-le, drop-set-lt, drop-set-add}
 use Rattle.std.proofs.Math.ListN.{length-set}
 use Rattle.std.proofs.Math.Seq.{take-set-lt}
 use Rattle.n2_word.specs.declared.Width.{Width}
 use Rattle.n2_word.specs.Words.{put_at, extracted, merged}
-use Rattle.n2_word.specs.Lines.{line, read_in_line, written_in_line}
-use Rattle.n2_parts.specs.declared.board.MemoryRow.{MemoryRow}
+use Rattle.n2_word.specs.Lines.{line}
 use Rattle.n2_parts.specs.MemoryLines.{HasLine, line_place}
-use Rattle.n2_memory.specs.Memories.{Contents, IsFull, first_word, line_at, with_line, read_at, written_at}
+use Rattle.n2_memory.specs.Memories.{Contents, IsFull, first_word, read_at, written_at}
 
 -- a line's words are among all words
 pub line_within : (m : Contents) (l : ℕ) → IsFull m → HasLine m.memories l → first_word m l + 8 ≤ length m.words

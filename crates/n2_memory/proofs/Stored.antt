@@ -1,5 +1,5 @@
 -- Bytes of a segment, stored one by one or as words.
-use Rattle.std.proofs.Common.{◌≡◌, ◌≢◌, ℕ, zero, suc, ◌+◌, ◌-◌, ◌*◌, ◌/◌, ◌%◌, ◌^◌, ◌<◌, ◌≤◌, ◌⊎◌, inl, inr, List, [], ◌∷◌, ◌++◌, length, take, drop, get_or, slice_index, slice_set, replicate, refl, ap, sym, subst, ◌∙◌, drop-cons, length-append, arith}
+use Rattle.std.proofs.Common.{◌≡◌, ℕ, zero, suc, ◌+◌, ◌-◌, ◌*◌, ◌/◌, ◌%◌, ◌^◌, ◌<◌, ◌≤◌, inl, inr, List, [], ◌∷◌, ◌++◌, length, take, drop, get_or, slice_index, slice_set, replicate, refl, ap, sym, subst, ◌∙◌, drop-cons, length-append, arith}
 use Rattle.std.proofs.lemmas.List.{drop_more, drop_all, get_or-replicate, get_or_past, get_or-set_same, set-set, set-get_or, length-replicate}
 use Rattle.std.proofs.lemmas.Bool.{cases_lt}
 use Rattle.std.proofs.Math.ListN.{length-set}

@@ -1,5 +1,5 @@
 -- The memories of a board as one list of words: eight for each line, in the board's order of memories.
-use Rattle.std.specs.Prelude.{ℕ, ◌+◌, ◌*◌, ◌^◌, ◌<◌, ◌≤◌, ◌≡◌, List, length, take, drop}
+use Rattle.std.specs.Prelude.{ℕ, ◌*◌, ◌^◌, ◌<◌, ◌≤◌, ◌≡◌, List, length, take, drop}
 use Rattle.std.specs.List.{All}
 use Rattle.n2_word.specs.declared.Width.{Width}
 use Rattle.n2_word.specs.Words.{put_at}

@@ -10,8 +10,6 @@ use std::marker::Model;
 
 pub mod laws;
 mod start;
-#[cfg(test)]
-mod tests;
 
 /// The memories of a board, seen as the board's rows and one list of words, eight for each line.
 #[derive(Debug, Drop)]

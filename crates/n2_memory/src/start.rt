@@ -12,23 +12,10 @@ ghost use Rattle.n2_memory.specs.Start.{stored, bytes_of_segment, loaded, segmen
 
 use crate::Memory;
 use n2_elf::{Image, Segment};
-use n2_parts::{Board, MemoryRow, line_count};
+use n2_parts::{Board, MemoryRow, copy_memories, line_count};
 use n2_text::Items;
 use n2_word::{NoMemory, Width, byte_at, word_at};
 use std::alloc::Global;
-
-fn copied(alloc: Global, memories: &[MemoryRow]) -> Result<Items<MemoryRow>, NoMemory>
-    ensures { IfOk result (λ copies. copies ≡ memories.now) }
-{
-    let mut copies = Items::new(alloc);
-    for row in memories {
-        copies.push(MemoryRow {
-            base: row.base,
-            size: row.size,
-        })?;
-    }
-    Ok(copies)
-}
 
 /// Memories of zeros.
 #[tactic(auto, unfolding(crate::specs::Start::zeros))]
@@ -38,7 +25,7 @@ fn zeros(alloc: Global, memories: &[MemoryRow]) -> Result<Memory, NoMemory>
     ensures full { IfOk result (λ memory. IsFull memory) }
 {
     let count = 8 * line_count(memories) as usize;
-    let memories = copied(alloc, memories)?;
+    let memories = copy_memories(alloc, memories)?;
     match vec![in alloc; 0u32; count] {
         Ok(words) => Ok(Memory { memories, words }),
         Err(_) => Err(NoMemory),

@@ -1,4 +1,4 @@
-use Rattle.std.proofs.Common.{◌+◌, sym, ap, drop, ◌∙◌, arith}
+use Rattle.std.proofs.Common.{sym, ap, drop, ◌∙◌, arith}
 use Rattle.n2_memory.specs.Start.{stored, bytes_of_segment}
 use Rattle.n2_memory.proofs.Stored.{all_stored}
 use Rattle.n2_parts.proofs.LinePlaces.{inside_end}

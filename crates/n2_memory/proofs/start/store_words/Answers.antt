@@ -1,4 +1,4 @@
-use Rattle.std.proofs.Common.{◌≡◌, ◌+◌, ◌*◌, ◌%◌, ◌^◌, ◌<◌, List, ℕ, ap, sym, subst, ◌∙◌, get_or, take, drop, arith}
+use Rattle.std.proofs.Common.{◌≡◌, ◌+◌, ◌*◌, ◌%◌, ◌^◌, ◌<◌, List, ℕ, ap, subst, ◌∙◌, get_or, take, drop, arith}
 use Rattle.n2_word.specs.Words.{number_of}
 use Rattle.n2_memory.specs.Memories.{Contents}
 use Rattle.n2_memory.proofs.Stored.{word_step, inside_here}

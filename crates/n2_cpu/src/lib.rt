@@ -1,0 +1,2 @@
+//! A core with its private caches, one turn at a time.
+#![tactic(auto)]

@@ -1,0 +1,3 @@
+pub mod KeptActs
+pub mod Stops
+pub mod Others

@@ -1,0 +1,6 @@
+pub mod Steps
+pub mod Fields
+pub mod Bodies
+pub mod Entries
+pub mod Splits
+pub mod Runs

@@ -1,0 +1,12 @@
+pub mod Lists
+pub mod Lines
+pub mod Sets
+pub mod Rights
+pub mod Solo
+pub mod Locks
+pub mod Kept
+pub mod Bypass
+pub mod Steps
+pub mod Turns
+pub mod Begins
+pub mod Agreed

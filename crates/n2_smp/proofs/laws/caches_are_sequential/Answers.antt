@@ -1,0 +1,12 @@
+use Rattle.n2_memory.specs.Start as first
+use Rattle.n2_smp.specs.Machine.{start, run, acts}
+use Rattle.n2_smp.specs.FlatRun.{flat_start, flat}
+use Rattle.n2_smp.proofs.Turns.{run_keeps}
+use Rattle.n2_smp.proofs.Begins.{starts_along}
+use Rattle.n2_smp.proofs.Agreed.{agreed}
+use Rattle.n2_smp.proofs.laws.caches_are_sequential.Goals as goal
+
+pub returns : goal.returns
+returns c = λ b images map' order valid long fits sized is.
+    agreed b map' (first.start b.memory images) (run b map' (start b images) order) (flat b map' (flat_start b images) (acts b map' (start b images) order))
+    (run_keeps b images map' valid is (first.start b.memory images) order (start b images) (flat_start b images) (starts_along b images map' valid long fits sized))

@@ -1,0 +1,4 @@
+pub mod Machine
+pub mod FlatRun
+pub mod Agree
+pub mod Along

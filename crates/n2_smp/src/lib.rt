@@ -1,0 +1,4 @@
+//! The caching machine over an order of turns.
+#![tactic(auto)]
+
+pub mod laws;

@@ -1,0 +1,12 @@
+pub mod Past
+pub mod InWords
+pub mod Discipline
+pub mod Book
+pub mod World
+pub mod Kept
+pub mod Shapes
+pub mod Table
+pub mod Stands
+pub mod Walks
+pub mod Watched
+pub mod NextLines

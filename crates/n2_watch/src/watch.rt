@@ -1,0 +1,422 @@
+//! What a core knows of the discipline, and the judge of its accesses.
+
+ghost use Rattle.std.specs.Prelude.{◌≡◌, ◌≢◌, ◌==◌, ◌&&◌, ℕ, Bool, List, ◌<◌, Some, None, Ok, Err, false, option_map, get_or, slice_get, length};
+ghost use Rattle.std.specs.List.{list_any};
+ghost use Rattle.n2_word.specs.declared.Width.{Width as WidthValue};
+ghost use Rattle.n2_word.specs.Lines.{line as line_number};
+ghost use Rattle.n2_parts.specs.declared.stops.Kind.TheVariants as kinds;
+ghost use Rattle.n2_board.specs.declared.guards.Guard.{Guard as GuardValue};
+ghost use Rattle.n2_board.specs.declared.guards.Guard.TheVariants as guard_kinds;
+ghost use Rattle.n2_board.specs.Access.{data_target, fetch_violation};
+ghost use Rattle.n2_board.specs.AddressMap.{AddressMap, class_of};
+ghost use Rattle.n2_board.specs.Guards.{guard_of, passed_region};
+ghost use Rattle.n2_watch.specs.declared.past.Past.{Past as PastEvent};
+ghost use Rattle.n2_watch.specs.Past.{covers, guards, dirty, lowest};
+ghost use Rattle.n2_watch.specs.Table.{slot_of};
+ghost use Rattle.n2_watch.specs.Stands.{LinesStand};
+ghost use Rattle.n2_watch.specs.Discipline as rules;
+ghost use Rattle.n2_parts.specs.declared.board.Board.{Board as BoardValue};
+ghost use Rattle.n2_watch.specs.Book.{Book, knowledge};
+ghost use Rattle.n2_watch.specs.Watched.{StandsFor, known, broken_at, address_of};
+
+use crate::access::{Access, Broken};
+use crate::records::{Records, slot_of};
+use n2_board::{
+    Board, Class, Direction, Guard, Kind, Layout, MailboxRow, Part, PartKind, RegionClass, Route,
+    Target, Violation,
+};
+use n2_insn::DataOp;
+use n2_word::{Width, line_of};
+use std::marker::Model;
+
+/// What a core knows of the discipline by its own events and replies.
+#[derive(Debug, Drop)]
+pub struct Watch {
+    pub(crate) board: Board,
+    core: u32,
+    cpuid: u32,
+    pub(crate) records: Records,
+    owned: Vec<bool>,
+    pointers: Vec<u32>,
+}
+
+impl Model for Watch {
+    ghost use Rattle.n2_watch.specs.Watched.{Watched};
+
+    ghost Value = { Watched };
+
+    ghost view = { λ w. record { board = w.board; core = w.core; cpuid = w.cpuid; table = w.records; owned = w.owned.items; pointers = w.pointers.items } };
+}
+
+/// The guard that a class names.
+#[inline(always)]
+fn guard_of(class: Class) -> Option<Guard>
+    ensures { result ≡ guard_of class }
+{
+    match class {
+        Class::Mutex(mutex) => Some(Guard::Mutex(mutex)),
+        Class::Passed(region) => Some(Guard::Passed(region)),
+        Class::Code => None,
+        Class::Private(_) => None,
+        Class::Uncached => None,
+        Class::Absent => None,
+    }
+}
+
+#[inline(always)]
+fn direction(store: bool) -> Direction
+    ensures { result ≡ rules.direction store }
+{
+    if store {
+        Direction::Store
+    } else {
+        Direction::Load
+    }
+}
+
+/// The refusal that a line is to be flushed, if there is one.
+fn unflushed(address: u32, lowest: Option<u32>) -> Option<Broken>
+    ensures { result ≡ broken_at address (option_map (λ number. rules.Breaks kinds.Flush number) lowest) }
+{
+    match lowest {
+        Some(line) => Some(Broken {
+            kind: Kind::Flush,
+            address,
+            line,
+        }),
+        None => None,
+    }
+}
+
+/// The region that a class says is passed on.
+fn passed_region(class: Class) -> Option<u32>
+    ensures { result ≡ passed_region class }
+{
+    match class {
+        Class::Passed(region) => Some(region),
+        Class::Code => None,
+        Class::Private(_) => None,
+        Class::Mutex(_) => None,
+        Class::Uncached => None,
+        Class::Absent => None,
+    }
+}
+
+fn any_listed(mailboxes: &[u32], mailbox: u32) -> bool
+    ensures { result ≡ list_any (λ listed. listed == mailbox) mailboxes.now }
+{
+    mailboxes.iter().any(|listed| *listed == mailbox)
+}
+
+/// Whether a region is passed on by a mailbox.
+fn class_lists(class: &RegionClass, mailbox: u32) -> bool
+    ensures { result ≡ rules.class_lists class.now mailbox }
+{
+    match class {
+        RegionClass::Passed { mailboxes, .. } => { any_listed(mailboxes.as_slice(), mailbox) }
+        RegionClass::Code => false,
+        RegionClass::Private(_) => false,
+        RegionClass::Mutex(_) => false,
+        RegionClass::Uncached => false,
+    }
+}
+
+impl Watch {
+    /// Whether the core owns a guard.
+    #[inline(always)]
+    fn owns(&self, guard: Guard) -> bool
+        ensures { result ≡ get_or self.now.owned (slot_of guard) false }
+    {
+        match self.owned.get(slot_of(guard) as usize) {
+            Some(owned) => *owned,
+            None => false,
+        }
+    }
+
+    /// A line that is stale.
+    #[inline(always)]
+    fn judge_stale(&self, address: u32, line: u32) -> Option<Broken>
+        ensures { (map : AddressMap) (past : List PastEvent) → LinesStand map self.now.table past → result ≡ broken_at address (rules.if_stale map (known self.now past) line) }
+    {
+        if self.records.is_line_stale(line) {
+            Some(Broken {
+                kind: Kind::Invalidate,
+                address,
+                line,
+            })
+        } else {
+            None
+        }
+    }
+
+    /// A line whose guard is not owned, or that is stale.
+    #[inline(always)]
+    fn judge_line(&self, guard: Option<Guard>, address: u32, line: u32) -> Option<Broken>
+        ensures { (map : AddressMap) (past : List PastEvent) → LinesStand map self.now.table past → result ≡ broken_at address (rules.line_breach map (known self.now past) guard line) }
+    {
+        match guard {
+            None => self.judge_stale(address, line),
+            Some(guard) => {
+                if self.owns(guard) {
+                    self.judge_stale(address, line)
+                } else {
+                    Some(Broken {
+                        kind: Kind::Lock,
+                        address,
+                        line,
+                    })
+                }
+            }
+        }
+    }
+
+    /// A load or store through the cache.
+    #[inline(always)]
+    fn judge_cached(&self, layout: &Layout, address: u32, store: bool) -> Option<Broken>
+        ensures { (past : List PastEvent) → LinesStand layout.now self.now.table past → result ≡ broken_at address (rules.cached_breach layout.now (known self.now past) (data_target layout.now self.now.core address Width.Word Route.Cached (rules.direction store)) (line_number address)) }
+    {
+        let line = line_of(address);
+        let target = layout.data_target(
+            self.core,
+            address,
+            Width::Word,
+            Route::Cached,
+            direction(store),
+        );
+        match target {
+            Ok(_) => self.judge_line(guard_of(layout.class_of(line)), address, line),
+            Err(Violation::Separate) => Some(Broken {
+                kind: Kind::Separate,
+                address,
+                line,
+            }),
+            Err(Violation::Stray) => None,
+        }
+    }
+
+    /// The fetch of an instruction.
+    fn judge_fetch(&self, layout: &Layout, address: u32) -> Option<Broken>
+        ensures { result ≡ broken_at address (option_map (λ wrong. rules.violation wrong (line_number address)) (fetch_violation layout.now address)) }
+    {
+        match layout.fetch_violation(address) {
+            Some(Violation::Separate) => Some(Broken {
+                kind: Kind::Separate,
+                address,
+                line: line_of(address),
+            }),
+            Some(Violation::Stray) => None,
+            None => None,
+        }
+    }
+
+    /// The lowest dirty line of a guard.
+    fn lowest_given(&self, guard: Guard) -> Option<u32>
+        ensures { (map : AddressMap) (past : List PastEvent) → LinesStand map self.now.table past → result ≡ lowest (λ number. dirty (length self.now.table.cleaned) past number && guards map guard number) past }
+    {
+        self.records.lowest_of_guard(guard)
+    }
+
+    /// The lowest dirty line that a data cache operation covers.
+    fn lowest_dropped(&self, op: DataOp, address: u32) -> Option<u32>
+        ensures { (map : AddressMap) (past : List PastEvent) → LinesStand map self.now.table past → result ≡ lowest (λ number. dirty (length self.now.table.cleaned) past number && covers (length self.now.table.cleaned) op address number) past }
+    {
+        self.records.lowest_covered(op, address)
+    }
+
+    /// A data cache operation.
+    fn judge_op(&self, op: DataOp, address: u32) -> Option<Broken>
+        ensures { (map : AddressMap) (past : List PastEvent) → LinesStand map self.now.table past → result ≡ broken_at address (rules.op_breach (known self.now past) op address) }
+    {
+        match op {
+            DataOp::Initd => unflushed(address, self.lowest_dropped(op, address)),
+            DataOp::Initda => unflushed(address, self.lowest_dropped(op, address)),
+            DataOp::Flushd => None,
+            DataOp::Flushda => None,
+        }
+    }
+
+    /// A guard that is given away.
+    fn judge_gift(&self, guard: Guard, address: u32) -> Option<Broken>
+        ensures { (map : AddressMap) (past : List PastEvent) → LinesStand map self.now.table past → result ≡ broken_at address (rules.gives map (known self.now past) guard) }
+    {
+        unflushed(address, self.lowest_given(guard))
+    }
+
+    /// A write of the register of a mutex.
+    fn judge_mutex(&self, mutex: u32, value: u32, address: u32, line: u32) -> Option<Broken>
+        ensures { (map : AddressMap) (past : List PastEvent) → LinesStand map self.now.table past → result ≡ broken_at address (rules.mutex_breach map (known self.now past) mutex value line) }
+    {
+        if value / 0x1_0000 == self.cpuid {
+            if value % 0x1_0000 == 0 && self.owns(Guard::Mutex(mutex)) {
+                self.judge_gift(Guard::Mutex(mutex), address)
+            } else {
+                None
+            }
+        } else {
+            Some(Broken {
+                kind: Kind::Lock,
+                address,
+                line,
+            })
+        }
+    }
+
+    /// Whether a region of the board lists a mailbox.
+    fn lists(&self, region: u32, mailbox: u32) -> bool
+        ensures { result ≡ rules.lists self.now.board region mailbox }
+    {
+        match self.board.region.as_slice().get(region as usize) {
+            Some(row) => class_lists(&row.class, mailbox),
+            None => false,
+        }
+    }
+
+    /// A post of the region that a Pointer lies in.
+    fn judge_post(
+        &self,
+        mailbox: u32,
+        region: Option<u32>,
+        address: u32,
+        line: u32,
+    ) -> Option<Broken>
+        ensures { (map : AddressMap) (past : List PastEvent) → LinesStand map self.now.table past → result ≡ broken_at address (rules.post_breach self.now.board map (known self.now past) mailbox region line) }
+    {
+        let region = region?;
+        if !self.lists(region, mailbox) {
+            return Some(Broken {
+                kind: Kind::Separate,
+                address,
+                line,
+            });
+        }
+        if self.owns(Guard::Passed(region)) {
+            self.judge_gift(Guard::Passed(region), address)
+        } else {
+            Some(Broken {
+                kind: Kind::Lock,
+                address,
+                line,
+            })
+        }
+    }
+
+    /// The passed region that the Pointer register of a mailbox lies in.
+    fn region_at(&self, layout: &Layout, mailbox: u32) -> Option<u32>
+        ensures { result ≡ passed_region (class_of layout.now (line_number (get_or self.now.pointers mailbox 0))) }
+    {
+        let pointer = match self.pointers.get(mailbox as usize) {
+            Some(pointer) => *pointer,
+            None => 0,
+        };
+        passed_region(layout.class_of(line_of(pointer)))
+    }
+
+    /// An access of the sending or the receiving side of a mailbox.
+    fn judge_side(
+        &self,
+        layout: &Layout,
+        mailbox: u32,
+        row: &MailboxRow,
+        offset: u32,
+        store: bool,
+        address: u32,
+        line: u32,
+    ) -> Option<Broken>
+        ensures { (past : List PastEvent) → LinesStand layout.now self.now.table past → result ≡ broken_at address (rules.side_breach self.now.board layout.now (known self.now past) mailbox row.now offset store line) }
+    {
+        let side = if offset < 4 { row.sender } else { row.receiver };
+        if side != self.core {
+            return Some(Broken {
+                kind: Kind::Lock,
+                address,
+                line,
+            });
+        }
+        if offset == 0 && store {
+            self.judge_post(mailbox, self.region_at(layout, mailbox), address, line)
+        } else {
+            None
+        }
+    }
+
+    /// An access of a device.
+    fn judge_device(
+        &self,
+        layout: &Layout,
+        part: Part,
+        offset: u32,
+        store: bool,
+        value: u32,
+        address: u32,
+    ) -> Option<Broken>
+        ensures { (past : List PastEvent) → LinesStand layout.now self.now.table past → result ≡ broken_at address (rules.device_breach self.now.board layout.now (known self.now past) part.kind part.index offset store value (line_number address)) }
+    {
+        let line = line_of(address);
+        match part.kind {
+            PartKind::Mutex => {
+                if offset == 0 && store {
+                    self.judge_mutex(part.index, value, address, line)
+                } else {
+                    None
+                }
+            }
+            PartKind::Mailbox => match self.board.mailbox.as_slice().get(part.index as usize) {
+                Some(row) => {
+                    self.judge_side(layout, part.index, row, offset, store, address, line)
+                }
+                None => None,
+            },
+            _ => None,
+        }
+    }
+
+    /// A load or store past the cache.
+    fn judge_bypass(&self, layout: &Layout, address: u32, store: bool, value: u32) -> Option<Broken>
+        ensures { (past : List PastEvent) → LinesStand layout.now self.now.table past → result ≡ broken_at address (rules.bypass_breach self.now.board layout.now (known self.now past) (data_target layout.now self.now.core address Width.Word Route.Bypassing (rules.direction store)) store value (line_number address)) }
+    {
+        let target = layout.data_target(
+            self.core,
+            address,
+            Width::Word,
+            Route::Bypassing,
+            direction(store),
+        );
+        match target {
+            Ok(Target::Memory) => None,
+            Ok(Target::Device { part, offset }) => {
+                self.judge_device(layout, part, offset, store, value, address)
+            }
+            Err(Violation::Separate) => Some(Broken {
+                kind: Kind::Separate,
+                address,
+                line: line_of(address),
+            }),
+            Err(Violation::Stray) => None,
+        }
+    }
+
+    /// The refusal of an access that does not stray, by the rules on what the watch knows.
+    fn judge_known(&self, layout: &Layout, access: &Access) -> Option<Broken>
+        ensures { (past : List PastEvent) (width : WidthValue) → LinesStand layout.now self.now.table past → rules.breach self.now.board layout.now (known self.now past) access.now width ≢ Some rules.Strays → result ≡ broken_at (address_of access.now) (rules.breach self.now.board layout.now (known self.now past) access.now width) }
+    {
+        match access {
+            Access::Cached { address, store } => self.judge_cached(layout, *address, *store),
+            Access::Bypass {
+                address,
+                store,
+                value,
+            } => self.judge_bypass(layout, *address, *store, *value),
+            Access::Fetch { address } => self.judge_fetch(layout, *address),
+            Access::Op { op, address } => self.judge_op(*op, *address),
+        }
+    }
+
+    /// How an access is refused, if it is. The answer is for an access that does not stray, in a layout
+    /// of the board that the watch was opened with; an access that strays is for the layout to find.
+    #[inline(always)]
+    pub fn judge(&self, layout: &Layout, access: &Access) -> Option<Broken>
+        ensures { (b : BoardValue) (book : Book) (past : List PastEvent) (width : WidthValue) → StandsFor b layout.now self.now.core self.now book past → rules.breach b layout.now (knowledge b book self.now.core past) access.now width ≢ Some rules.Strays → result ≡ broken_at (address_of access.now) (rules.breach b layout.now (knowledge b book self.now.core past) access.now width) }
+    {
+        self.judge_known(layout, access)
+    }
+}

@@ -30,7 +30,8 @@ use Rattle.n2_front.specs.Retire.{Acted, acted, retired}
 use Rattle.n2_bus.specs.Transfer.{request_for}
 use Rattle.n2_cpu.specs.Core.{Core, Ended, stop_of, ended_stop, log_full}
 use Rattle.n2_cpu.specs.Turn.{CoreTurn, served_by, wants, core_turn}
-use Rattle.n2_smp.specs.Machine.{Entry, Machine, Made, unmoved, entry_of, made_by, made, core_made, core_of, event_made, script_made, turn, has_room, entered, full_made, run, acts, with_act as made_act}
+use Rattle.n2_journal.specs.declared.entry.Entry.{Entry}
+use Rattle.n2_smp.specs.Machine.{Machine, Made, unmoved, entry_of, made_by, made, core_made, core_of, event_made, script_made, turn, has_room, entered, full_made, run, acts, with_act as made_act}
 use Rattle.n2_smp.specs.FlatRun.{Flat, with_core, unless_stopped, retires, sampled_by, samples, act, flat}
 use Rattle.n2_smp.specs.Agree.{may_read, fronts_of, pasts_of}
 use Rattle.n2_smp.proofs.Lists.{set_each, slice_get-set_same, slice_get-set_other, slice_set-same, map-slice_set}

@@ -13,17 +13,11 @@ use Rattle.n2_parts.specs.declared.stops.Act.TheVariants as acts_of
 use Rattle.n2_board.specs.AddressMap.{AddressMap}
 use Rattle.n2_bus.specs.declared.request.Request.{Request}
 use Rattle.n2_bus.specs.declared.request.Reply.{Reply}
+use Rattle.n2_journal.specs.declared.entry.Entry.{Entry}
 use Rattle.n2_watch.specs.World.{World, Transferred, start_world, transferred}
 use Rattle.n2_bus.specs.Transfer.{request_for}
 use Rattle.n2_cpu.specs.Core.{Core, started_core, stop_of, log_full}
 use Rattle.n2_cpu.specs.Turn.{CoreTurn, core_turn}
-
--- a transfer: who made it, how many turns it made without one before it, what it asked, and what it was replied
-pub record Entry : Type 0 where
-  pub actor : ℕ
-  pub local : ℕ
-  pub request : Request
-  pub reply : Reply
 
 pub record Machine : Type 0 where
   pub world : World

@@ -2,12 +2,9 @@
 use Rattle.std.proofs.Common.{◌⊎◌, inl, inr, ◌≡◌, ◌<◌, ℕ, ◌≤◌, ◌⊎◌, nat_lt, List, [], ◌∷◌, refl, ap, arith, Bool, true, false, ◌&&◌, cond, nat_eq, Option, Some, None}
 use Rattle.std.specs.Prelude.{IfNone, IfSome, IsTrue}
 use Rattle.std.proofs.lemmas.Bool.Decides.{nat_tests}
-use Rattle.n2_insn.specs.declared.DataOp.{DataOp}
-use Rattle.n2_board.specs.declared.guards.Guard.{Guard}
-use Rattle.n2_board.specs.AddressMap.{AddressMap}
 use Rattle.n2_watch.specs.declared.past.Past.{Past}
 use Rattle.n2_watch.specs.declared.past.Past.TheVariants.{Touch, Clean, Got, Gave}
-use Rattle.n2_watch.specs.Past.{covers, may, dirty, lower, lowest}
+use Rattle.n2_watch.specs.Past.{covers, dirty, lower, lowest}
 
 -- some event of a list is a Touch of the line
 abbrev IsIn : ℕ → List Past → Type 0

@@ -1,5 +1,5 @@
 -- What past events say of a line, in words.
-use Rattle.std.proofs.Common.{◌≡◌, ℕ, List, [], ◌∷◌, ◌++◌, refl, ap, sym, ◌∙◌, arith, Bool, true, false, ◌&&◌, cond, nat_eq}
+use Rattle.std.proofs.Common.{◌≡◌, ℕ, List, [], ◌∷◌, ◌++◌, refl, ap, arith, Bool, true, false, ◌&&◌, cond, nat_eq}
 use Rattle.std.proofs.lemmas.Bool.Decides.{nat_tests}
 use Rattle.n2_insn.specs.declared.DataOp.{DataOp}
 use Rattle.n2_board.specs.declared.guards.Guard.{Guard}

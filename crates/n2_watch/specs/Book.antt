@@ -1,6 +1,6 @@
 -- The book: the states of the devices, what writes put into the queues of UARTs, and who holds each region that is passed
 -- on. With it stands who owns a guard, and what an access does to ownership.
-use Rattle.std.specs.Prelude.{ℕ, ◌/◌, ◌%◌, ◌^◌, List, [], ◌∷◌, ◌++◌, map, Bool, true, false, not, ◌==◌, ◌&&◌, nat_lt, if◌then◌else◌, Option, Some, None, option_map, option_and_then, unwrap_or, get_or, slice_get, slice_set}
+use Rattle.std.specs.Prelude.{ℕ, ◌/◌, ◌%◌, ◌^◌, List, [], ◌∷◌, ◌++◌, map, Bool, true, false, ◌==◌, ◌&&◌, if◌then◌else◌, Option, Some, None, option_map, unwrap_or, get_or, slice_get, slice_set}
 use Rattle.n2_word.specs.Lines.{line}
 use Rattle.n2_mutex.specs.Mutex as mutex
 use Rattle.n2_mailbox.specs.Mailbox as mailbox
@@ -10,7 +10,6 @@ use Rattle.n2_parts.specs.declared.board.MailboxRow.{MailboxRow}
 use Rattle.n2_parts.specs.declared.board.RegionRow.{RegionRow}
 use Rattle.n2_parts.specs.declared.board.RegionClass.{RegionClass}
 use Rattle.n2_parts.specs.declared.board.RegionClass.TheVariants as classes
-use Rattle.n2_parts.specs.declared.board.Part.{Part}
 use Rattle.n2_parts.specs.declared.board.PartKind.{PartKind}
 use Rattle.n2_parts.specs.declared.board.PartKind.TheVariants as kinds
 use Rattle.n2_devices.specs.Devices.{Devices, started}

@@ -1,7 +1,7 @@
 -- The discipline of shared memory, as one function of what a core knows itself. An access breaks the first of these rules
 -- that applies: it strays; it is separate, which the layout says but for posts; it lacks a lock; it is of a stale line; it
 -- gives away or drops what is dirty.
-use Rattle.std.specs.Prelude.{ℕ, ◌/◌, ◌%◌, ◌^◌, List, [], ◌∷◌, Bool, true, false, ◌==◌, ◌&&◌, nat_lt, if◌then◌else◌, Option, Some, None, option_map, option_and_then, Result, Ok, Err, slice_get}
+use Rattle.std.specs.Prelude.{ℕ, ◌/◌, ◌%◌, ◌^◌, List, Bool, false, ◌==◌, ◌&&◌, nat_lt, if◌then◌else◌, Option, Some, None, option_map, Result, Ok, Err, slice_get}
 use Rattle.std.specs.List.{list_any}
 use Rattle.n2_word.specs.declared.Width.{Width}
 use Rattle.n2_word.specs.Lines.{line}
@@ -12,7 +12,6 @@ use Rattle.n2_parts.specs.declared.board.MailboxRow.{MailboxRow}
 use Rattle.n2_parts.specs.declared.board.RegionRow.{RegionRow}
 use Rattle.n2_parts.specs.declared.board.RegionClass.{RegionClass}
 use Rattle.n2_parts.specs.declared.board.RegionClass.TheVariants as classes
-use Rattle.n2_parts.specs.declared.board.Part.{Part}
 use Rattle.n2_parts.specs.declared.board.PartKind.{PartKind}
 use Rattle.n2_parts.specs.declared.board.PartKind.TheVariants as kinds
 use Rattle.n2_parts.specs.declared.stops.Kind.{Kind}

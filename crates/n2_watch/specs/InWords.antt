@@ -1,5 +1,5 @@
 -- The same in words: a Touch of the line, no later Clean that covers it, and for a stale line a later Got of its guard.
-use Rattle.std.specs.Prelude.{◌≡◌, ℕ, List, [], ◌∷◌, ◌++◌, Bool, true, false, IsTrue}
+use Rattle.std.specs.Prelude.{◌≡◌, ℕ, List, [], ◌∷◌, ◌++◌, Bool, false, IsTrue}
 use Rattle.n2_board.specs.declared.guards.Guard.{Guard}
 use Rattle.n2_board.specs.AddressMap.{AddressMap}
 use Rattle.n2_watch.specs.declared.past.Past.{Past}

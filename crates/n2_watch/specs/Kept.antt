@@ -1,6 +1,6 @@
 -- What the book and the past events of cores keep by themselves, whatever the caches hold: every access that does not break
 -- the discipline keeps it.
-use Rattle.std.specs.Prelude.{◌≡◌, ℕ, ◌<◌, ◌↔◌, List, [], ◌∷◌, Bool, true, false, IsTrue, ◌==◌, Option, Some, None, length, get_or, slice_get}
+use Rattle.std.specs.Prelude.{◌≡◌, ℕ, ◌↔◌, List, [], ◌∷◌, Bool, false, IsTrue, ◌==◌, Option, Some, None, get_or, slice_get}
 use Rattle.n2_mailbox.specs.Mailbox as mailbox
 use Rattle.n2_parts.specs.declared.board.Board.{Board}
 use Rattle.n2_board.specs.declared.access.Route.TheVariants.{Cached}
@@ -10,7 +10,6 @@ use Rattle.n2_board.specs.declared.guards.Guard.{Guard}
 use Rattle.n2_board.specs.declared.guards.Guard.TheVariants as guard_kinds
 use Rattle.n2_board.specs.AddressMap.{AddressMap, class_of}
 use Rattle.n2_board.specs.Access.{allows}
-use Rattle.n2_board.specs.declared.guards.Holder.{Holder}
 use Rattle.n2_board.specs.declared.guards.Holder.TheVariants.{ByMailbox}
 use Rattle.n2_watch.specs.declared.past.Past.{Past}
 use Rattle.n2_watch.specs.declared.past.Past.TheVariants.{Touch, Clean, Got, Gave}

@@ -10,3 +10,4 @@ pub mod Stands
 pub mod Walks
 pub mod Watched
 pub mod NextLines
+pub mod Examples

@@ -1,5 +1,6 @@
 //! Laws on past events.
 
+pub mod examples;
 pub mod kept;
 pub mod ownership;
 

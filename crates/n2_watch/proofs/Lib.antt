@@ -25,3 +25,4 @@ mod Noting
 mod Building
 mod Nexts
 mod Starting
+mod Opened

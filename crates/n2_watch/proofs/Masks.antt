@@ -4,7 +4,9 @@ use Rattle.std.specs.Prelude.{IsTrue}
 use Rattle.std.specs.Int.{is_power_of_two, IsPowerOfTwo}
 use Rattle.std.specs.Int.RustNames.{bit_and, count_ones}
 use Rattle.std.proofs.lemmas.Nat.{and_mask, zero_from_ones, ones_cat, shr_split}
-use Rattle.std.proofs.lemmas.Bool.{cases_eq, eqb-true}
+use Rattle.std.proofs.lemmas.Bool.{cases_eq, eqb-true, eq-eqb}
+use Rattle.std.proofs.lemmas.Bool.Decides.{nat_tests}
+use Rattle.n2_word.specs.Lines.{is_cache_size}
 
 -- the ones of a number are those of its low bits and those of the rest
 ones_split : (n k : ℕ) → n % 2 ^ k < 2 ^ k → count_ones n ≡ count_ones (n / 2 ^ k) + count_ones (n % 2 ^ k)
@@ -39,3 +41,19 @@ pub mask_is_rest : (line n : ℕ) → IsTrue (is_power_of_two n) → bit_and lin
 mask_is_rest line n power =
     let p : IsPowerOfTwo n = power_from_ones n n (omega arith) (eqb-true _ _ power) in
     subst (λ m. bit_and line (m - 1) ≡ line % m) (sym p.1) (and_mask line p.0)
+
+-- the sets of a cache
+pub power_of_sets : (bytes : ℕ) → IsTrue (is_cache_size bytes) → IsTrue (is_power_of_two (bytes / 32)) × (0 < bytes / 32)
+unfolding count_ones
+power_of_sets bytes size =
+    let one : count_ones bytes ≡ 1 = grind (arith, nat_tests) in
+    let least : 512 ≤ bytes = grind (arith, nat_tests) in
+    let split : count_ones bytes ≡ count_ones (bytes / 32) + count_ones (bytes % 32) = ones_split bytes 5 (omega arith) in
+    let zero_ones : count_ones 0 ≡ 0 = refl in
+    let power : IsTrue (is_power_of_two (bytes / 32)) =
+    elim (cases_eq (count_ones (bytes / 32)) 0) [
+      | inl none ↦ absurd (omega (arith, zero_from_ones (bytes / 32) none))
+      | inr some ↦ eq-eqb (count_ones (bytes / 32)) 1 (omega arith)
+    ]
+    in
+    (power, omega arith)

@@ -11,3 +11,4 @@ pub mod Walks
 pub mod Watched
 pub mod NextLines
 pub mod Examples
+pub mod Opened

@@ -1,6 +1,7 @@
-//! The records that a watch opens with: one for each line that its core may touch.
+//! What a watch opens with: a record for each line that its core may touch, and the guards that the
+//! core owns at the start.
 
-ghost use Rattle.std.specs.Prelude.{◌≡◌, ◌≢◌, ◌↔◌, List, Some, ℕ, ◌+◌, ◌<◌, ◌≤◌, ◌^◌, ◌++◌, [], ◌∷◌, true, false, IfOk, OnOk, IfNone, IfSome, IsTrue, length, slice_set};
+ghost use Rattle.std.specs.Prelude.{◌≡◌, ◌≢◌, ◌↔◌, List, Some, ℕ, ◌+◌, ◌<◌, ◌≤◌, ◌^◌, ◌++◌, [], ◌∷◌, true, false, IfOk, OnOk, IfNone, IfSome, IsTrue, length, slice_set, get_or, ◌*◌, replicate};
 ghost use Rattle.n2_parts.specs.MemoryLines.{memory_has, HasLine};
 ghost use Rattle.n2_board.specs.AddressMap.{class_of};
 ghost use Rattle.std.specs.List.{All};
@@ -14,10 +15,12 @@ ghost use Rattle.n2_watch.specs.Stands.{AreBuilt, IsRecorded, IsPut, grown, begu
 ghost use Rattle.n2_watch.specs.Watched.{is_touchable};
 ghost use Rattle.n2_watch.specs.Walks.{lower_of};
 ghost use Rattle.n2_watch.specs.NextLines.{IsFirst, NoneHas, IsOpen};
+ghost use Rattle.n2_watch.specs.Book.{cpuid_of, sets_of, first_holder};
+ghost use Rattle.n2_watch.specs.Opened.{is_held, is_held_first, slot_count};
 
 use crate::records::Record;
 use crate::runs::Run;
-use n2_board::{Class, Layout, MemoryRow};
+use n2_board::{Board, Class, Layout, MemoryRow, RegionClass, RegionRow};
 use n2_word::NoMemory;
 use std::alloc::Global;
 
@@ -218,4 +221,74 @@ pub fn open_lines(
         from = line + 1;
     }
     Ok(built)
+}
+
+/// The cpuid of a core.
+pub fn cpuid_of(board: &Board, core: u32) -> u32
+    ensures { result ≡ cpuid_of board.now core }
+{
+    match board.core.as_slice().get(core as usize) {
+        Some(row) => u32::from(row.cpuid),
+        None => 0,
+    }
+}
+
+/// How many sets the data cache of a core has.
+pub fn sets_of(board: &Board, core: u32) -> usize
+    ensures { result ≡ sets_of board.now core }
+{
+    match board.core.as_slice().get(core as usize) {
+        Some(row) => (row.dcache / 32) as usize,
+        None => 0,
+    }
+}
+
+/// The slots of the guards of boards, which have at most 64 regions and 32 mutexes.
+pub const SLOTS: usize = 129;
+
+/// Whether a core is the first holder of a region.
+fn is_held(class: &RegionClass, core: u32) -> bool
+    ensures { result ≡ is_held core (first_holder class.now) }
+{
+    match class {
+        RegionClass::Passed { holder, .. } => *holder == core,
+        RegionClass::Code => false,
+        RegionClass::Private(_) => false,
+        RegionClass::Mutex(_) => false,
+        RegionClass::Uncached => false,
+    }
+}
+
+/// Flags that are not set.
+fn unset(alloc: Global, count: usize) -> Result<Vec<bool>, NoMemory>
+    ensures { IfOk result (λ flags. flags.items ≡ replicate count false) }
+{
+    match vec![in alloc; false; count] {
+        Ok(flags) => Ok(flags),
+        Err(_) => Err(NoMemory),
+    }
+}
+
+/// For each slot whether a core owns its guard at the start: the regions that it holds, and no mutex.
+pub fn open_owned(alloc: Global, core: u32, regions: &[RegionRow]) -> Result<Vec<bool>, NoMemory>
+    requires { length regions.now ≤ 64 }
+    ensures slots { IfOk result (λ owned. length owned.items ≡ slot_count) }
+    ensures mutexes { IfOk result (λ owned. (mutex : ℕ) → get_or owned.items (2 * mutex + 1) false ≡ false) }
+    ensures regions { IfOk result (λ owned. (region : ℕ) → get_or owned.items (2 * region + 2) false ≡ is_held_first core regions.now region) }
+{
+    let mut owned = unset(alloc, SLOTS)?;
+    for (i, row) in regions.iter().enumerate() {
+        owned[2 * i + 2] = is_held(&row.class, core);
+    }
+    Ok(owned)
+}
+
+/// The Pointer registers of mailboxes at the start.
+pub fn open_pointers(alloc: Global, count: usize) -> Result<Vec<u32>, NoMemory>
+    ensures { IfOk result (λ pointers. pointers.items ≡ replicate count 0) }
+{
+    match vec![in alloc; 0; count] {
+        Ok(pointers) => Ok(pointers),
+        Err(_) => Err(NoMemory),
+    }
 }

@@ -1,6 +1,6 @@
 //! What a core knows of the discipline, and the judge of its accesses.
 
-ghost use Rattle.std.specs.Prelude.{◌≡◌, ◌≢◌, ◌==◌, ◌&&◌, ℕ, Bool, List, ◌<◌, Some, None, Ok, Err, false, option_map, get_or, slice_get, length};
+ghost use Rattle.std.specs.Prelude.{◌≡◌, ◌≢◌, ◌==◌, ◌&&◌, ℕ, Bool, List, ◌<◌, Some, None, Ok, Err, false, option_map, get_or, slice_get, length, IfOk, []};
 ghost use Rattle.std.specs.List.{list_any};
 ghost use Rattle.n2_word.specs.declared.Width.{Width as WidthValue};
 ghost use Rattle.n2_word.specs.Lines.{line as line_number};
@@ -16,17 +16,19 @@ ghost use Rattle.n2_watch.specs.Table.{slot_of};
 ghost use Rattle.n2_watch.specs.Stands.{LinesStand};
 ghost use Rattle.n2_watch.specs.Discipline as rules;
 ghost use Rattle.n2_parts.specs.declared.board.Board.{Board as BoardValue};
-ghost use Rattle.n2_watch.specs.Book.{Book, knowledge};
-ghost use Rattle.n2_watch.specs.Watched.{StandsFor, known, broken_at, address_of};
+ghost use Rattle.n2_watch.specs.Book.{Book, start_book, knowledge};
+ghost use Rattle.n2_watch.specs.Watched.{IsMapOf, StandsFor, known, broken_at, address_of};
 
 use crate::access::{Access, Broken};
+use crate::opening::{SLOTS, cpuid_of, open_lines, open_owned, open_pointers, sets_of};
 use crate::records::{Records, slot_of};
 use n2_board::{
     Board, Class, Direction, Guard, Kind, Layout, MailboxRow, Part, PartKind, RegionClass, Route,
     Target, Violation,
 };
 use n2_insn::DataOp;
-use n2_word::{Width, line_of};
+use n2_word::{NoMemory, Width, line_of};
+use std::alloc::Global;
 use std::marker::Model;
 
 /// What a core knows of the discipline by its own events and replies.
@@ -122,6 +124,32 @@ fn class_lists(class: &RegionClass, mailbox: u32) -> bool
 }
 
 impl Watch {
+    /// The watch of a core of a board with a layout, with nothing past.
+    pub fn open(alloc: Global, core: u32, board: &Board, layout: &Layout) -> Result<Watch, NoMemory>
+        requires core { core < length board.now.core }
+        requires map { IsMapOf board.now layout.now }
+        ensures core { IfOk result (λ watch. watch.core ≡ core) }
+        ensures clock { IfOk result (λ watch. watch.table.clock ≡ 0) }
+        ensures stands { IfOk result (λ watch. StandsFor board.now layout.now core watch (start_book board.now) []) }
+    {
+        n2_parts::laws::valid_boards();
+        n2_board::laws::classes();
+        let built = open_lines(alloc, core, board.memory.as_slice(), layout)?;
+        let records = Records::open(alloc, built, sets_of(board, core), SLOTS)?;
+        let owned = open_owned(alloc, core, board.region.as_slice())?;
+        let pointers = open_pointers(alloc, board.mailbox.len())?;
+        let cpuid = cpuid_of(board, core);
+        let board = board.copy(alloc)?;
+        Ok(Watch {
+            board,
+            core,
+            cpuid,
+            records,
+            owned,
+            pointers,
+        })
+    }
+
     /// Whether the core owns a guard.
     #[inline(always)]
     fn owns(&self, guard: Guard) -> bool

@@ -26,3 +26,6 @@ mod Building
 mod Nexts
 mod Starting
 mod Opened
+mod Following
+mod FollowingRows
+mod FollowingAccess

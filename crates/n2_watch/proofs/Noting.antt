@@ -39,6 +39,7 @@ noted_stands b map core old new book past after h n l = record {
   lines = l;
   recorded = λ number m t. n.table.lines number (h.recorded number m t);
   slots = λ guard g. (let s = h.slots guard g in let e = ap (λ (o : List Bool). length o) n.owned in (omega (arith, s.0, e), omega (arith, s.1, n.table.slots)));
+  registers = λ index m. (let e = ap (λ (p : List ℕ). length p) n.pointers in omega (arith, h.registers index m, e));
   owned = λ guard. ap (λ (o : List Bool). get_or o (slot_of guard) false) n.owned ∙ h.owned guard;
   pointers = λ index row e s. ap (λ (p : List ℕ). get_or p index 0) n.pointers ∙ h.pointers index row e s;
 }

@@ -118,6 +118,7 @@ opened_stands b map' core w runs records bound sets o = record {
   lines = subst (λ (t : Table). LinesStand map' t []) (sym o.table) (start_stands map' runs records bound sets slot_count o.some o.built);
   recorded = λ number h t. subst (λ (t : Table). IsRecorded t.records number) (sym o.table) (o.recorded number h t);
   slots = λ guard h. (let e : length w.table.got ≡ slot_count = ap (λ (t : Table). length t.got) o.table ∙ length_zeros slot_count in let s = small_slot b o.small guard h in (subst (λ (n : ℕ). slot_of guard < n) (sym o.slots) s, subst (λ (n : ℕ). slot_of guard < n) (sym e) s));
+  registers = λ index m. (let e = ap (λ (p : List ℕ). length p) o.pointers ∙ length_zeros (length b.mailbox) in omega (arith, e));
   owned = owned_at_start b core w.owned o.mutexes o.regions;
   pointers = λ i row e s. ap (λ (p : List ℕ). get_or p i 0) o.pointers ∙ nothing_cleaned (length b.mailbox) i ∙ sym (pointer_at_start b i);
 }

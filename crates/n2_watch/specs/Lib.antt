@@ -12,3 +12,4 @@ pub mod Watched
 pub mod NextLines
 pub mod Examples
 pub mod Opened
+pub mod Noted

@@ -76,7 +76,8 @@ pub record StandsFor (b : Board) (map : AddressMap) (core : ℕ) (w : Watched) (
   -- each guard has a slot, which says whether the core owns it
   pub slots : (guard : Guard) → IsGuardOf b guard → (slot_of guard < length w.owned) × (slot_of guard < length w.table.got)
   pub owned : (guard : Guard) → get_or w.owned (slot_of guard) false ≡ owned_by b book core guard
-  -- the Pointer registers of the mailboxes that the core sends to
+  -- each mailbox has a place, which says the Pointer register of one that the core sends to
+  pub registers : (index : ℕ) → index < length b.mailbox → index < length w.pointers
   pub pointers : (index : ℕ) (row : MailboxRow) → slice_get b.mailbox index ≡ Some row → IsTrue (row.sender == core) → get_or w.pointers index 0 ≡ pointer_of book index
 
 -- ---- a refusal, as a judge says it

@@ -38,8 +38,8 @@ pub struct Watch {
     core: u32,
     cpuid: u32,
     pub(crate) records: Records,
-    owned: Vec<bool>,
-    pointers: Vec<u32>,
+    pub(crate) owned: Vec<bool>,
+    pub(crate) pointers: Vec<u32>,
 }
 
 impl Model for Watch {

@@ -8,8 +8,7 @@ use Rattle.n2_watch.proofs.watch.Watch.note_cleaned.Goals as goal
 pub note_clean-requires : goal.note_clean-requires
 note_clean-requires c =
     let e = ap (λ (w : Watched). w.table.clock) c.self.view_is in
-    let f = ap (λ (w : Watched). w.board.turns) c.self.view_is in
-    omega (arith, c.turns-turns.ensures, c.requires, e, f)
+    omega (arith, c.requires, e)
 
 pub returns-clause-stands : goal.returns-clause-stands
 returns-clause-stands c = λ b map book past h.

@@ -15,8 +15,7 @@ use Rattle.n2_watch.proofs.watch.Watch.note_touched.Goals as goal
 pub note_touch-requires : goal.note_touch-requires
 note_touch-requires c =
     let e = ap (λ (w : Watched). w.table.clock) c.self.view_is in
-    let f = ap (λ (w : Watched). w.board.turns) c.self.view_is in
-    omega (arith, c.turns-turns.ensures, c.requires, e, f)
+    omega (arith, c.requires, e)
 
 pub returns-clause-stands : goal.returns-clause-stands
 returns-clause-stands c = λ b map book past address width h e n.

@@ -49,15 +49,6 @@ fn region_zone(i: u32, row: &RegionRow) -> LineZone
     }
 }
 
-fn put_zone(out: &mut Vec<LineZone>, zone: LineZone) -> Result<(), NoMemory>
-    ensures { OnOk result (out.new.items ≡ out.old.items ++ zone ∷ []) }
-{
-    match out.push(zone) {
-        Ok(()) => Ok(()),
-        Err(_) => Err(NoMemory),
-    }
-}
-
 /// The lines of regions.
 fn region_zones(alloc: Global, rows: &[RegionRow]) -> Result<Vec<LineZone>, NoMemory>
     requires { length rows.now < 2 ^ 32 }
@@ -66,7 +57,7 @@ fn region_zones(alloc: Global, rows: &[RegionRow]) -> Result<Vec<LineZone>, NoMe
     let mut out = Vec::new(alloc);
     let mut i = 0;
     for row in rows {
-        put_zone(&mut out, region_zone(i, row))?;
+        out.push(region_zone(i, row))?;
         i += 1;
     }
     Ok(out)

@@ -44,34 +44,16 @@ fn first_holding(spans: &[Span], point: u64) -> Option<usize>
     spans.iter().position(|span| span.holds(point))
 }
 
-fn put(bounds: &mut Vec<u64>, bound: u64) -> Result<(), NoMemory>
-    ensures { OnOk result (bounds.new.items ≡ bounds.old.items ++ bound ∷ []) }
-{
-    match bounds.push(bound) {
-        Ok(()) => Ok(()),
-        Err(_) => Err(NoMemory),
-    }
-}
-
 /// Where spans begin and end.
 fn bounds_of(alloc: Global, spans: &[Span]) -> Result<Vec<u64>, NoMemory>
     ensures { IfOk result (λ bounds. bounds.items ≡ flat_map (λ span. span.from ∷ span.end ∷ []) spans.now) }
 {
     let mut bounds = Vec::new(alloc);
     for span in spans {
-        put(&mut bounds, span.from)?;
-        put(&mut bounds, span.end)?;
+        bounds.push(span.from)?;
+        bounds.push(span.end)?;
     }
     Ok(bounds)
-}
-
-fn put_found(found: &mut Vec<Option<usize>>, one: Option<usize>) -> Result<(), NoMemory>
-    ensures { OnOk result (found.new.items ≡ found.old.items ++ one ∷ []) }
-{
-    match found.push(one) {
-        Ok(()) => Ok(()),
-        Err(_) => Err(NoMemory),
-    }
 }
 
 /// The number of the first span that holds each of some points.
@@ -80,7 +62,7 @@ fn all_found(alloc: Global, spans: &[Span], points: &[u64]) -> Result<Vec<Option
 {
     let mut found = Vec::new(alloc);
     for point in points {
-        put_found(&mut found, first_holding(spans, *point))?;
+        found.push(first_holding(spans, *point))?;
     }
     Ok(found)
 }
@@ -88,10 +70,7 @@ fn all_found(alloc: Global, spans: &[Span], points: &[u64]) -> Result<Vec<Option
 fn copy_spans(alloc: Global, spans: &[Span]) -> Result<Vec<Span>, NoMemory>
     ensures { IfOk result (λ copies. copies.items ≡ spans.now) }
 {
-    match Vec::from_slice(alloc, spans) {
-        Ok(copies) => Ok(copies),
-        Err(_) => Err(NoMemory),
-    }
+    Ok(Vec::from_slice(alloc, spans)?)
 }
 
 /// No more spans than this are looked at one by one.
@@ -117,12 +96,8 @@ fn both_bounds(alloc: Global, first: &[u64], second: &[u64]) -> Result<Vec<u64>,
     ensures same { IfOk result (λ bounds. IsPermutation (first.now ++ second.now) bounds.items) }
     ensures rising { IfOk result (λ bounds. IsNonDecreasing bounds.items) }
 {
-    let Ok(mut bounds) = Vec::from_slice(alloc, first) else {
-        return Err(NoMemory);
-    };
-    let Ok(()) = bounds.extend_from_slice(second) else {
-        return Err(NoMemory);
-    };
+    let mut bounds = Vec::from_slice(alloc, first)?;
+    bounds.extend_from_slice(second)?;
     match bounds.sort() {
         Ok(()) => Ok(bounds),
         Err(_) => Err(NoMemory),
@@ -163,7 +138,7 @@ fn both_found(
     for point in points {
         let (passed, here) = first.find_from(in_first, *point);
         let (passed_behind, behind) = second.find_from(in_second, *point);
-        put_found(&mut found, either(here, count, behind))?;
+        found.push(either(here, count, behind))?;
         in_first = passed;
         in_second = passed_behind;
     }

@@ -16,9 +16,7 @@ fn by_first_line(alloc: Global, segments: &[LoadedSegment]) -> Result<Vec<Loaded
     ensures same { IfOk result (λ sorted. IsPermutation segments.now sorted.items) }
     ensures rising { IfOk result (λ sorted. IsNonDecreasingBy (λ s. s.lines.from) sorted.items) }
 {
-    let Ok(mut sorted) = Vec::from_slice(alloc, segments) else {
-        return Err(NoMemory);
-    };
+    let mut sorted = Vec::from_slice(alloc, segments)?;
     sorted.sort_unstable_by_key(|s| s.lines.from);
     Ok(sorted)
 }

@@ -63,15 +63,6 @@ impl Model for Places {
     ghost invariant = { λ p. p.finder.0 ≡ map (λ zone. zone.bytes) p.zones.items };
 }
 
-fn put_zone(out: &mut Vec<PlaceZone>, zone: PlaceZone) -> Result<(), NoMemory>
-    ensures { OnOk result (out.new.items ≡ out.old.items ++ zone ∷ []) }
-{
-    match out.push(zone) {
-        Ok(()) => Ok(()),
-        Err(_) => Err(NoMemory),
-    }
-}
-
 /// Adds the places of a part.
 fn put_part(out: &mut Vec<PlaceZone>, board: &Board, part: Part) -> Result<(), NoMemory>
     ensures { OnOk result (out.new.items ≡ out.old.items ++ spec.zones_at part (rules.spans_of board.now part)) }
@@ -87,8 +78,9 @@ fn put_part(out: &mut Vec<PlaceZone>, board: &Board, part: Part) -> Result<(), N
                 bytes: spans.second,
                 area: area_of(part, 4),
             };
-            put_zone(out, first)?;
-            put_zone(out, second)
+            out.push(first)?;
+            out.push(second)?;
+            Ok(())
         }
     }
 }

@@ -51,21 +51,12 @@ fn loaded_segment(core: u32, segment: &Segment) -> LoadedSegment
     }
 }
 
-fn put_segment(out: &mut Vec<LoadedSegment>, segment: LoadedSegment) -> Result<(), NoMemory>
-    ensures { OnOk result (out.new.items ≡ out.old.items ++ segment ∷ []) }
-{
-    match out.push(segment) {
-        Ok(()) => Ok(()),
-        Err(_) => Err(NoMemory),
-    }
-}
-
 /// Adds the segments of one image.
 fn put_image(out: &mut Vec<LoadedSegment>, core: u32, segments: &[Segment]) -> Result<(), NoMemory>
     ensures { OnOk result (out.new.items ≡ out.old.items ++ map (spec.loaded_segment core) segments.now) }
 {
     for segment in segments {
-        put_segment(out, loaded_segment(core, segment))?;
+        out.push(loaded_segment(core, segment))?;
     }
     Ok(())
 }

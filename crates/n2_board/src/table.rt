@@ -74,10 +74,8 @@ impl ClassTable {
             Class::Uncached => Entry::Uncached,
             Class::Absent => Entry::Absent,
         };
-        match self.entries.push(entry) {
-            Ok(()) => Ok(()),
-            Err(_) => Err(NoMemory),
-        }
+        self.entries.push(entry)?;
+        Ok(())
     }
 
     /// The class at a place, if there are so many.

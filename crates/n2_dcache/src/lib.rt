@@ -197,7 +197,7 @@ impl DCache {
 
     /// The set that keeps a line. Their number is a power of two.
     #[inline(always)]
-    #[tactic(auto, using(crate::proofs::Masks::mask_is_rest))]
+    #[tactic(auto, using(n2_word::proofs::Masks::mask_is_rest))]
     fn set_of(&self, line: u32) -> usize
         ensures set { result ≡ own_set self.now line }
         ensures below { result < length self.now }

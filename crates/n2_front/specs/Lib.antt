@@ -1,3 +1,5 @@
 pub mod Front
 pub mod Tasks
 pub mod Retire
+pub mod Core
+pub mod Turn

@@ -1,5 +1,5 @@
 -- One step of each loop over parts.
-use Rattle.std.proofs.Common.{◌≡◌, ℕ, zero, suc, ◌+◌, ◌-◌, ◌<◌, ◌≤◌, List, length, get_or, drop, Option, Some, None, refl, ap, drop-cons, arith}
+use Rattle.std.proofs.Common.{◌≡◌, ℕ, zero, suc, ◌+◌, ◌-◌, ◌<◌, ◌≤◌, List, length, get_or, drop, Option, Some, None, refl, sym, ap, ◌∙◌, drop-cons, arith}
 use Rattle.std.proofs.lemmas.List.{drop_all}
 use Rattle.n2_parts.specs.declared.board.Board.{Board}
 use Rattle.n2_parts.specs.declared.board.Part.{Part}
@@ -17,6 +17,10 @@ pub first_from-done : {F : Type 0} (f : ℕ → Option F) (i count : ℕ) → co
 unfolding first_from
 first_from-done f i count le =
     let k : count - i ≡ 0 = omega arith in rw k refl
+
+-- one more number is looked at, and what it answers counts first
+pub first_from-step : {F : Type 0} (f : ℕ → Option F) (i count : ℕ) (found all : Option F) → i < count → found ≡ f i → first_from f i (count - i) ≡ all → option_or found (first_from f (i + 1) (count - (i + 1))) ≡ all
+first_from-step f i count found all lt look so_far = ap (λ o. option_or o (first_from f (i + 1) (count - (i + 1)))) look ∙ sym (first_from-next f i count lt) ∙ so_far
 
 -- two functions that find the same at these numbers
 pub first_from-same : {F : Type 0} (f g : ℕ → Option F) (i n : ℕ) → ((k : ℕ) → i ≤ k → k < i + n → f k ≡ g k) → first_from f i n ≡ first_from g i n

@@ -14,7 +14,6 @@ pub mod OwnersRights
 pub mod KeptMemory
 pub mod KeptJudgement
 pub mod KeptEvents
-mod Masks
 mod RecordCounts
 mod RecordSteps
 mod Finding

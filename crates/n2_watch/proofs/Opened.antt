@@ -25,7 +25,7 @@ use Rattle.n2_watch.specs.Stands.{AreBuilt, IsRecorded, LinesStand}
 use Rattle.n2_watch.specs.Watched.{Watched, IsMapOf, IsGuardOf, StandsFor, is_touchable}
 use Rattle.n2_watch.specs.Opened.{slot_count, is_held, is_held_first}
 use Rattle.n2_watch.proofs.KeptLists.{element_at}
-use Rattle.n2_watch.proofs.Masks.{power_of_sets}
+use Rattle.n2_word.proofs.Masks.{power_of_sets}
 use Rattle.n2_watch.proofs.Starting.{start_stands, zeros, nothing_cleaned, length_zeros}
 
 -- ---- flags by slots

@@ -141,7 +141,7 @@ impl Records {
 
     /// The set of a line. Their number is a power of two.
     #[inline(always)]
-    #[tactic(auto, using(crate::proofs::Masks::mask_is_rest))]
+    #[tactic(auto, using(n2_word::proofs::Masks::mask_is_rest))]
     fn set_of(&self, line: u32) -> usize
         ensures set { result ≡ set_for line (length self.now.cleaned) }
         ensures below { result < length self.now.cleaned }

@@ -1,4 +1,4 @@
-use Rattle.n2_dcache.proofs.Masks.{whole_opened}
+use Rattle.n2_dcache.proofs.Opened.{whole_opened}
 use Rattle.n2_dcache.proofs.DCache.open.Goals as goal
 
 pub invariant_of-result : goal.invariant_of-result

@@ -31,7 +31,7 @@ use Rattle.n2_front.specs.Front.{Front, with_regs, advanced, stopped, noted, sam
 use Rattle.n2_front.specs.Tasks.{Task, task_of, task_breach, task_address, task_request, stop_for}
 use Rattle.n2_front.specs.Tasks as tasks
 use Rattle.n2_front.specs.Retire.{Acted, who, done, done_past}
-use Rattle.n2_cpu.specs.Core.{Core, TurnKind, SampleTurn, EvictTurn, StepTurn, turn_kind, evicted_set, ended_after, log_full}
+use Rattle.n2_front.specs.Core.{Core, TurnKind, SampleTurn, EvictTurn, StepTurn, turn_kind, evicted_set, ended_after, log_full}
 
 -- ---- what a core is about to do
 

@@ -29,11 +29,11 @@ use Rattle.n2_watch.specs.Book.{Book, start_book, first_holder, owned_by, sets_o
 use Rattle.n2_watch.proofs.KeptShapes.{start_shape}
 use Rattle.n2_watch.specs.Kept.{IsPastKept, is_posted, IsPosted, IsKept}
 use Rattle.n2_front.specs.Front.{Front}
-use Rattle.n2_cpu.specs.Core.{Core, started_core}
-use Rattle.n2_smp.specs.Machine.{started_cores, start}
-use Rattle.n2_smp.specs.FlatRun.{started_fronts, flat_start}
-use Rattle.n2_smp.specs.Agree.{fronts_of, pasts_of}
-use Rattle.n2_smp.specs.Along.{IsOf, IsOwnWell, AreCodesWell, IsAlong}
+use Rattle.n2_front.specs.Core.{Core, started_core}
+use Rattle.n2_runs.specs.Machine.{started_cores, start}
+use Rattle.n2_runs.specs.FlatRun.{started_fronts, flat_start}
+use Rattle.n2_runs.specs.Agree.{fronts_of, pasts_of}
+use Rattle.n2_runs.specs.Along.{IsOf, IsOwnWell, AreCodesWell, IsAlong}
 
 -- ---- memory
 start_of : (b : Board) (images : List Image) → IsValid b → open_fault b images ≡ None → AllByRecursion IsSized images → IsOf b.memory (first.start b.memory images)

@@ -15,10 +15,10 @@ use Rattle.n2_watch.specs.Past.{may, dirty, stale}
 use Rattle.n2_watch.specs.Book.{owned_by, sets_of}
 use Rattle.n2_watch.specs.Kept.{IsKept}
 use Rattle.n2_watch.specs.Shapes.{HasBoardShape}
-use Rattle.n2_cpu.specs.Core.{Core}
-use Rattle.n2_smp.specs.Machine.{Machine}
-use Rattle.n2_smp.specs.FlatRun.{Flat, act}
-use Rattle.n2_smp.specs.Agree.{is_code, may_read, fronts_of, pasts_of}
+use Rattle.n2_front.specs.Core.{Core}
+use Rattle.n2_runs.specs.Machine.{Machine}
+use Rattle.n2_runs.specs.FlatRun.{Flat, act}
+use Rattle.n2_runs.specs.Agree.{is_code, may_read, fronts_of, pasts_of}
 
 -- full memories with these rows
 pub record IsOf (rows : List MemoryRow) (m : Contents) : Type 0 where

@@ -1,7 +1,7 @@
-use Rattle.n2_smp.proofs.Turns.{turn_keeps}
-use Rattle.n2_smp.proofs.Begins.{starts_along}
-use Rattle.n2_smp.proofs.Agreed.{agreed}
-use Rattle.n2_smp.proofs.laws.along_a_run.Goals as goal
+use Rattle.n2_runs.proofs.Turns.{turn_keeps}
+use Rattle.n2_runs.proofs.Begins.{starts_along}
+use Rattle.n2_runs.proofs.Agreed.{agreed}
+use Rattle.n2_runs.proofs.laws.along_a_run.Goals as goal
 
 pub returns-clause-start : goal.returns-clause-start
 returns-clause-start c = starts_along

@@ -15,9 +15,9 @@ use Rattle.n2_watch.specs.Past.{may, dirty, stale}
 use Rattle.n2_watch.specs.Book.{Book, owned_by, sets_of}
 use Rattle.n2_watch.specs.Kept.{may_write, IsKept}
 use Rattle.n2_front.specs.Front.{Front}
-use Rattle.n2_cpu.specs.Core.{Core}
-use Rattle.n2_smp.specs.Machine.{Machine}
-use Rattle.n2_smp.specs.FlatRun.{Flat}
+use Rattle.n2_front.specs.Core.{Core}
+use Rattle.n2_runs.specs.Machine.{Machine}
+use Rattle.n2_runs.specs.FlatRun.{Flat}
 
 abbrev pub is_code : Class → Bool
 is_code classes.Code = true

@@ -16,8 +16,8 @@ use Rattle.n2_bus.specs.declared.request.Reply.{Reply}
 use Rattle.n2_journal.specs.declared.entry.Entry.{Entry}
 use Rattle.n2_watch.specs.World.{World, Transferred, start_world, transferred}
 use Rattle.n2_bus.specs.Transfer.{request_for}
-use Rattle.n2_cpu.specs.Core.{Core, started_core, stop_of, log_full}
-use Rattle.n2_cpu.specs.Turn.{CoreTurn, core_turn}
+use Rattle.n2_front.specs.Core.{Core, started_core, stop_of, log_full}
+use Rattle.n2_front.specs.Turn.{CoreTurn, core_turn}
 
 pub record Machine : Type 0 where
   pub world : World

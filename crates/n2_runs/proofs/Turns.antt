@@ -28,22 +28,22 @@ use Rattle.n2_watch.specs.Kept.{may_write, IsKept}
 use Rattle.n2_front.specs.Front.{Front}
 use Rattle.n2_front.specs.Retire.{Acted, acted, retired}
 use Rattle.n2_bus.specs.Transfer.{request_for}
-use Rattle.n2_cpu.specs.Core.{Core, Ended, stop_of, ended_stop, log_full}
-use Rattle.n2_cpu.specs.Turn.{CoreTurn, served_by, wants, core_turn}
+use Rattle.n2_front.specs.Core.{Core, Ended, stop_of, ended_stop, log_full}
+use Rattle.n2_front.specs.Turn.{CoreTurn, served_by, wants, core_turn}
 use Rattle.n2_journal.specs.declared.entry.Entry.{Entry}
-use Rattle.n2_smp.specs.Machine.{Machine, Made, unmoved, entry_of, made_by, made, core_made, core_of, event_made, script_made, turn, has_room, entered, full_made, run, acts, with_act as made_act}
-use Rattle.n2_smp.specs.FlatRun.{Flat, with_core, unless_stopped, retires, sampled_by, samples, act, flat}
-use Rattle.n2_smp.specs.Agree.{may_read, fronts_of, pasts_of}
-use Rattle.n2_smp.proofs.Lists.{set_each, slice_get-set_same, slice_get-set_other, slice_set-same, map-slice_set}
-use Rattle.n2_smp.specs.Along.{IsOf, dirty_at, IsOwnWell, AreCodesWell, IsAlong, after}
+use Rattle.n2_runs.specs.Machine.{Machine, Made, unmoved, entry_of, made_by, made, core_made, core_of, event_made, script_made, turn, has_room, entered, full_made, run, acts, with_act as made_act}
+use Rattle.n2_runs.specs.FlatRun.{Flat, with_core, unless_stopped, retires, sampled_by, samples, act, flat}
+use Rattle.n2_runs.specs.Agree.{may_read, fronts_of, pasts_of}
+use Rattle.n2_runs.proofs.Lists.{set_each, slice_get-set_same, slice_get-set_other, slice_set-same, map-slice_set}
+use Rattle.n2_runs.specs.Along.{IsOf, dirty_at, IsOwnWell, AreCodesWell, IsAlong, after}
 use Rattle.n2_watch.proofs.Owners.{one_owner}
-use Rattle.n2_smp.proofs.Sets.{within, some_sets}
-use Rattle.n2_smp.proofs.Rights.{laid_out, not_true, is_uncached, uncached-write, exclusive, read-like}
-use Rattle.n2_smp.proofs.Solo.{AreFresh, IsSolo, own_frame}
-use Rattle.n2_smp.proofs.Bypass.{world_of}
+use Rattle.n2_runs.proofs.Sets.{within, some_sets}
+use Rattle.n2_runs.proofs.Rights.{laid_out, not_true, is_uncached, uncached-write, exclusive, read-like}
+use Rattle.n2_runs.proofs.Solo.{AreFresh, IsSolo, own_frame}
+use Rattle.n2_runs.proofs.Bypass.{world_of}
 use Rattle.n2_watch.specs.Shapes.{HasBoardShape}
-use Rattle.n2_smp.proofs.Kept.{put_exchange, got_exchange, retired_kept, sampled_kept, event_kept, shape_kept}
-use Rattle.n2_smp.proofs.Steps.{IsActOf, IsStep, codes_stay, picks, held_right, no_right_clean, turn_step}
+use Rattle.n2_runs.proofs.Kept.{put_exchange, got_exchange, retired_kept, sampled_kept, event_kept, shape_kept}
+use Rattle.n2_runs.proofs.Steps.{IsActOf, IsStep, codes_stay, picks, held_right, no_right_clean, turn_step}
 
 -- no core but k holds the line dirty
 abbrev others : Board → List Core → ℕ → ℕ → Type 0

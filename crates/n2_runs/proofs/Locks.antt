@@ -14,10 +14,10 @@ use Rattle.n2_watch.specs.declared.past.Past.{Past}
 use Rattle.n2_watch.specs.Past.{may, stale, guards, is_guard}
 use Rattle.n2_watch.specs.Book.{noted, all_noted}
 use Rattle.n2_watch.proofs.KeptDevices.{among}
-use Rattle.n2_smp.specs.Agree.{may_read}
-use Rattle.n2_smp.proofs.Rights.{read-like}
-use Rattle.n2_smp.specs.Along.{IsSlotWell, IsOwnWell}
-use Rattle.n2_smp.proofs.Solo.{IsSolo, own_frame}
+use Rattle.n2_runs.specs.Agree.{may_read}
+use Rattle.n2_runs.proofs.Rights.{read-like}
+use Rattle.n2_runs.specs.Along.{IsSlotWell, IsOwnWell}
+use Rattle.n2_runs.proofs.Solo.{IsSolo, own_frame}
 
 one_guard : (g h : Guard) → same_guard g h ≡ true → g ≡ h
 one_guard (guard_kinds.Mutex m) (guard_kinds.Mutex n) e = let i : m ≡ n = grind (arith, nat_tests) in ap (λ (x : ℕ). guard_kinds.Mutex x) i

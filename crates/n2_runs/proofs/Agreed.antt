@@ -10,11 +10,11 @@ use Rattle.n2_dcache.specs.Cache.{slot_at, own_set, is_line, is_dirty}
 use Rattle.n2_dcache.proofs.Maps.{held_line_is}
 use Rattle.n2_memory.specs.Memories.{Contents}
 use Rattle.n2_watch.specs.Book.{Book, owned_by, sets_of}
-use Rattle.n2_cpu.specs.Core.{Core}
-use Rattle.n2_smp.specs.Machine.{Machine}
-use Rattle.n2_smp.specs.FlatRun.{Flat}
-use Rattle.n2_smp.specs.Agree.{holds_dirty, IsCoreWell, Agree}
-use Rattle.n2_smp.specs.Along.{dirty_at, IsOwnWell, AreCodesWell, IsAlong}
+use Rattle.n2_front.specs.Core.{Core}
+use Rattle.n2_runs.specs.Machine.{Machine}
+use Rattle.n2_runs.specs.FlatRun.{Flat}
+use Rattle.n2_runs.specs.Agree.{holds_dirty, IsCoreWell, Agree}
+use Rattle.n2_runs.specs.Along.{dirty_at, IsOwnWell, AreCodesWell, IsAlong}
 
 same_dirty : (sets : ℕ) (c : Core) (l : ℕ) → length c.data_slots ≡ sets → holds_dirty c l ≡ dirty_at sets c.data_slots l
 unfolding dirty_at

@@ -44,18 +44,18 @@ use Rattle.n2_front.specs.Front.{Front, with_regs, advanced, stopped, noted, loa
 use Rattle.n2_front.specs.Tasks as tasks
 use Rattle.n2_front.specs.Tasks.{Task, task_of, task_breach, task_address, stop_for}
 use Rattle.n2_front.specs.Retire.{Acted, acted, who, done, done_past, replied_front, regs_replied, judged, executed, with_word, fetched, retired}
-use Rattle.n2_cpu.specs.Core.{Core, TurnKind, SampleTurn, EvictTurn, StepTurn, turn_kind, evicted_set}
-use Rattle.n2_cpu.specs.Turn.{Intent, Samples, Evicts, Interrupts, Stops, FillsCode, Does, back, filled_or, wants_by, turned, direct, emptied, CoreTurn, served_by, turn_of, turn_with, judged_task, executes, with_code, fetches, steps, intent_by, core_turn}
-use Rattle.n2_smp.specs.FlatRun.{sampled_by}
-use Rattle.n2_smp.specs.Agree.{is_code, may_read}
-use Rattle.n2_smp.proofs.Lists.{set_any}
-use Rattle.n2_smp.specs.Along.{dirty_in, dirty_at, IsOwnWell, IsCodeHeld, AreCodesWell}
-use Rattle.n2_smp.proofs.Lines.{written_same, written_other, written_of}
-use Rattle.n2_smp.proofs.Rights.{IsLaidOut, Passes, passes, Reached, InMemory, AtDevice, reached, stored_past, loaded_past, not_true, is_uncached, uncached-write, uncached-read, code-write, code-read}
-use Rattle.n2_smp.proofs.Solo.{AreFresh, IsSolo, mem_after, IsThere, touch_keeps, evict_keeps, drop_keeps, fill_keeps, hit_keeps, store_keeps, poke_keeps, clean_keeps}
-use Rattle.n2_smp.proofs.Locks.{own_keeps}
+use Rattle.n2_front.specs.Core.{Core, TurnKind, SampleTurn, EvictTurn, StepTurn, turn_kind, evicted_set}
+use Rattle.n2_front.specs.Turn.{Intent, Samples, Evicts, Interrupts, Stops, FillsCode, Does, back, filled_or, wants_by, turned, direct, emptied, CoreTurn, served_by, turn_of, turn_with, judged_task, executes, with_code, fetches, steps, intent_by, core_turn}
+use Rattle.n2_runs.specs.FlatRun.{sampled_by}
+use Rattle.n2_runs.specs.Agree.{is_code, may_read}
+use Rattle.n2_runs.proofs.Lists.{set_any}
+use Rattle.n2_runs.specs.Along.{dirty_in, dirty_at, IsOwnWell, IsCodeHeld, AreCodesWell}
+use Rattle.n2_runs.proofs.Lines.{written_same, written_other, written_of}
+use Rattle.n2_runs.proofs.Rights.{IsLaidOut, Passes, passes, Reached, InMemory, AtDevice, reached, stored_past, loaded_past, not_true, is_uncached, uncached-write, uncached-read, code-write, code-read}
+use Rattle.n2_runs.proofs.Solo.{AreFresh, IsSolo, mem_after, IsThere, touch_keeps, evict_keeps, drop_keeps, fill_keeps, hit_keeps, store_keeps, poke_keeps, clean_keeps}
+use Rattle.n2_runs.proofs.Locks.{own_keeps}
 use Rattle.n2_watch.proofs.KeptDevices.{IsExchange, none_unflushed}
-use Rattle.n2_smp.proofs.Bypass.{world_of, put_memory, got_memory, put_left, put_book, put_reply, got_left, got_book, got_reply}
+use Rattle.n2_runs.proofs.Bypass.{world_of, put_memory, got_memory, put_left, put_book, put_reply, got_left, got_book, got_reply}
 
 pub codes_stay : (b : Board) (map : AddressMap) (flat flat' : Contents) (codes : List (Option Held)) → ((l : ℕ) → HasLine b.memory l → is_code (class_of map l) ≡ true → line_at flat' l ≡ line_at flat l) → AreCodesWell b map flat codes → AreCodesWell b map flat' codes
 codes_stay b map flat flat' codes f h s e i = let w = h s e i in record { inside = w.inside; class = w.class; words = w.words ∙ sym (f e.line w.inside w.class); clean = w.clean }

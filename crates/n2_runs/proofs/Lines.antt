@@ -6,7 +6,7 @@ use Rattle.n2_word.specs.Lines.{line, place_in_line, written_in_line}
 use Rattle.n2_parts.specs.declared.board.MemoryRow.{MemoryRow}
 use Rattle.n2_parts.specs.MemoryLines.{HasLine}
 use Rattle.n2_memory.specs.Memories.{Contents, line_at, with_line, written_at}
-use Rattle.n2_smp.specs.Along.{IsOf}
+use Rattle.n2_runs.specs.Along.{IsOf}
 use Rattle.n2_memory.proofs.Writes.{length-line_at, full-with_line, same_line, other_line}
 
 has : (rows : List MemoryRow) (m : Contents) (l : ℕ) → IsOf rows m → HasLine rows l → HasLine m.memories l

@@ -31,7 +31,7 @@ use Rattle.n2_parts.specs.declared.stops.Kind.TheVariants as Kinds
 use Rattle.n2_watch.specs.Discipline.{Knowledge, Breach, breach, direction, if_stale, line_breach, cached_breach, bypass_breach}
 use Rattle.n2_watch.specs.Book.{Book, knowledge, owned_by, sets_of}
 use Rattle.n2_watch.specs.Kept.{may_write}
-use Rattle.n2_smp.specs.Agree.{is_code, may_read}
+use Rattle.n2_runs.specs.Agree.{is_code, may_read}
 
 pub not_true : (x : Bool) → (x ≡ true → ⊥) → x ≡ false
 not_true true h = absurd (h refl)

@@ -17,11 +17,11 @@ use Rattle.n2_watch.specs.declared.past.Past.{Past}
 use Rattle.n2_watch.specs.declared.past.Past.TheVariants.{Touch, Clean}
 use Rattle.n2_watch.specs.Past.{may, dirty, stale, covers}
 use Rattle.n2_watch.specs.Kept.{may_write}
-use Rattle.n2_smp.specs.Agree.{may_read}
-use Rattle.n2_smp.proofs.Lists.{set_all}
-use Rattle.n2_smp.specs.Along.{IsOf, dirty_in, dirty_at, IsSlotWell, IsOwnWell}
-use Rattle.n2_smp.proofs.Lines.{eight, put_same, put_other, put_of, written_same, written_other, written_of}
-use Rattle.n2_smp.proofs.Rights.{write-read, is_uncached, uncached-read}
+use Rattle.n2_runs.specs.Agree.{may_read}
+use Rattle.n2_runs.proofs.Lists.{set_all}
+use Rattle.n2_runs.specs.Along.{IsOf, dirty_in, dirty_at, IsSlotWell, IsOwnWell}
+use Rattle.n2_runs.proofs.Lines.{eight, put_same, put_other, put_of, written_same, written_other, written_of}
+use Rattle.n2_runs.proofs.Rights.{write-read, is_uncached, uncached-read}
 
 -- what is dirty may be written and is not stale
 abbrev pub AreFresh : AddressMap → (Guard → Bool) → ℕ → ℕ → List Past → Type 0

@@ -10,10 +10,10 @@ ghost use Rattle.n2_board.specs.AddressMap.{AddressMap, address_map};
 ghost use Rattle.n2_board.specs.Placement.{open_fault};
 ghost use Rattle.n2_memory.specs.Start as first;
 ghost use Rattle.n2_memory.specs.Memories.{Contents};
-ghost use Rattle.n2_smp.specs.Machine.{Machine, start, turn, run, acts};
-ghost use Rattle.n2_smp.specs.FlatRun.{Flat, flat_start, flat};
-ghost use Rattle.n2_smp.specs.Agree.{Agree};
-ghost use Rattle.n2_smp.specs.Along.{IsAlong, after};
+ghost use Rattle.n2_runs.specs.Machine.{Machine, start, turn, run, acts};
+ghost use Rattle.n2_runs.specs.FlatRun.{Flat, flat_start, flat};
+ghost use Rattle.n2_runs.specs.Agree.{Agree};
+ghost use Rattle.n2_runs.specs.Along.{IsAlong, after};
 
 /// Caches are sequential: on a valid board with images that load, and along every list of actors, the
 /// machine with caches agrees with the flat machine that makes the acts of its turns. A list that goes on

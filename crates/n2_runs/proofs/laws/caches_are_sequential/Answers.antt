@@ -1,10 +1,10 @@
 use Rattle.n2_memory.specs.Start as first
-use Rattle.n2_smp.specs.Machine.{start, run, acts}
-use Rattle.n2_smp.specs.FlatRun.{flat_start, flat}
-use Rattle.n2_smp.proofs.Turns.{run_keeps}
-use Rattle.n2_smp.proofs.Begins.{starts_along}
-use Rattle.n2_smp.proofs.Agreed.{agreed}
-use Rattle.n2_smp.proofs.laws.caches_are_sequential.Goals as goal
+use Rattle.n2_runs.specs.Machine.{start, run, acts}
+use Rattle.n2_runs.specs.FlatRun.{flat_start, flat}
+use Rattle.n2_runs.proofs.Turns.{run_keeps}
+use Rattle.n2_runs.proofs.Begins.{starts_along}
+use Rattle.n2_runs.proofs.Agreed.{agreed}
+use Rattle.n2_runs.proofs.laws.caches_are_sequential.Goals as goal
 
 pub returns : goal.returns
 returns c = λ b images map' order valid long fits sized is.

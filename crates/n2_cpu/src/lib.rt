@@ -1,2 +1,0 @@
-//! A core with its private caches, one turn at a time.
-#![tactic(auto)]

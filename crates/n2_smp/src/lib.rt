@@ -1,4 +1,0 @@
-//! The caching machine over an order of turns.
-#![tactic(auto)]
-
-pub mod laws;

@@ -10,3 +10,4 @@ pub mod Steps
 pub mod Turns
 pub mod Begins
 pub mod Agreed
+pub mod Known

@@ -2,3 +2,4 @@ pub mod Machine
 pub mod FlatRun
 pub mod Agree
 pub mod Along
+pub mod Knows

@@ -1,5 +1,7 @@
 //! Laws on runs.
 
+pub mod turns;
+
 ghost use Rattle.std.specs.Prelude.{◌≡◌, ℕ, List, length, None};
 ghost use Rattle.std.specs.List.{AllByRecursion};
 ghost use Rattle.n2_elf.specs.declared.image.Image.{Image};

@@ -43,12 +43,12 @@ start_of b images valid fits sized = record {
 }
 
 -- ---- cores
-same_fronts : (rows : List CoreRow) (images : List Image) → started_fronts rows images ≡ fronts_of (started_cores rows images)
+pub same_fronts : (rows : List CoreRow) (images : List Image) → started_fronts rows images ≡ fronts_of (started_cores rows images)
 same_fronts [] images = refl
 same_fronts (row ∷ rows) [] = refl
 same_fronts (row ∷ rows) (image ∷ images) = ap (λ (xs : List Front). (started_core row image).front ∷ xs) (same_fronts rows images)
 
-as_many : (rows : List CoreRow) (images : List Image) → length images ≡ length rows → length (started_cores rows images) ≡ length rows
+pub as_many : (rows : List CoreRow) (images : List Image) → length images ≡ length rows → length (started_cores rows images) ≡ length rows
 as_many [] images e = refl
 as_many (row ∷ rows) [] e = absurd (omega arith)
 as_many (row ∷ rows) (image ∷ images) e = ap suc (as_many rows images (omega arith))
@@ -114,7 +114,7 @@ no_past (row ∷ rows) (image ∷ images) (suc k) past e = no_past rows images k
 empty_kept : (b : Board) (map' : AddressMap) (book : Book) (k : ℕ) → IsPastKept b map' book k []
 empty_kept b map' book k = record { dirty_lines = λ l d. absurd (cc); touched = tt }
 
-kept_started : (b : Board) (map' : AddressMap) (images : List Image) → IsKept b map' (start_book b) (pasts_of (started_fronts b.core images))
+pub kept_started : (b : Board) (map' : AddressMap) (images : List Image) → IsKept b map' (start_book b) (pasts_of (started_fronts b.core images))
 kept_started b map' images = record {
   cores = λ k past e. subst (λ (p : List Past). IsPastKept b map' (start_book b) k p) (sym (no_past b.core images k past e)) (empty_kept b map' (start_book b) k);
   posted = posted_started b map';

@@ -11,3 +11,4 @@ pub mod Turns
 pub mod Begins
 pub mod Agreed
 pub mod Known
+pub mod Books

@@ -12,3 +12,4 @@ pub mod Begins
 pub mod Agreed
 pub mod Known
 pub mod Books
+pub mod Stopped

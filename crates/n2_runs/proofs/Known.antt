@@ -126,3 +126,8 @@ module _ (b : Board) (map : AddressMap) (k : ℕ) (row : CoreRow) (c : Core) whe
       ap (λ (t : CoreTurn). t.act) (local_is v (wants_same b map k w.book v.book same row c ∙ e))
       ∙ ap (λ (t : Turned). t.act) (turned_same w v same e)
       ∙ sym (ap (λ (t : CoreTurn). t.act) (local_is w e))
+
+  -- after a turn with a transfer it counts anew
+  pub entered_local : (w : World) (request : Request) → wants b map k row w.book c ≡ Some request → (core_turn b map k row c w).core.local ≡ 0
+  unfolding core_turn
+  entered_local w request e = ap (λ (o : Option Request). (turn_with b map k c w (intent b map k row w.book c) o (served_by b map k w o)).core.local) e

@@ -13,3 +13,5 @@ pub mod Agreed
 pub mod Known
 pub mod Books
 pub mod Stopped
+pub mod Views
+pub mod Ahead

@@ -3,3 +3,4 @@ pub mod FlatRun
 pub mod Agree
 pub mod Along
 pub mod Knows
+pub mod Recorded

@@ -134,6 +134,14 @@ abbrev pub script_is_over : Board → Machine → List DeviceEvent → Bool
 script_is_over b m [] = true
 script_is_over b m (event ∷ script) = not (has_room b m)
 
+abbrev pub core_is_over : Option Core → Bool
+core_is_over None = true
+core_is_over (Some c) = is_some (stop_of c)
+
+-- an actor is over: its core has stopped; the script is used up, or the journal is full; or there is no such actor
+abbrev pub is_over : Board → Machine → ℕ → Bool
+is_over b m actor = if actor == length b.core then script_is_over b m m.script else core_is_over (slice_get m.cores actor)
+
 -- every core has stopped, and the device actor is over
 abbrev pub is_finished : Board → Machine → Bool
 is_finished b m = list_all (λ c. is_some (stop_of c)) m.cores && script_is_over b m m.script

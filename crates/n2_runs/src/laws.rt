@@ -1,5 +1,6 @@
 //! Laws on runs.
 
+pub mod journals;
 pub mod turns;
 
 ghost use Rattle.std.specs.Prelude.{◌≡◌, ℕ, List, length, None};

@@ -1,0 +1,17 @@
+//! Laws on journals: what a run wrote replays.
+
+ghost use Rattle.std.specs.Prelude.{◌≡◌, ℕ, List, length, IsTrue};
+ghost use Rattle.n2_elf.specs.declared.image.Image.{Image};
+ghost use Rattle.n2_parts.specs.declared.board.Board.{Board};
+ghost use Rattle.n2_parts.specs.Valid.{IsValid};
+ghost use Rattle.n2_board.specs.AddressMap.{AddressMap, address_map};
+ghost use Rattle.n2_runs.specs.Machine.{start, run, is_finished};
+ghost use Rattle.n2_runs.specs.Recorded.{journal_of, actors_of, Records};
+
+/// What a run wrote replays. The run along the order that its journal tells comes to the same state of
+/// the machine: what cores share, the cores, the entries and the script that is left. So the journal of
+/// each finished run is that of a finished run, by its own order alone.
+pub fn finished_runs()
+    ensures state { (b : Board) (images : List Image) (map : AddressMap) (order : List ℕ) → IsValid b → map ≡ address_map b images → length images ≡ length b.core → run b map (start b images) (actors_of (journal_of (run b map (start b images) order))) ≡ run b map (start b images) order }
+    ensures records { (b : Board) (images : List Image) (map : AddressMap) (order : List ℕ) → IsValid b → map ≡ address_map b images → length images ≡ length b.core → IsTrue (is_finished b (run b map (start b images) order)) → Records b map (start b images) (journal_of (run b map (start b images) order)) }
+{}

@@ -28,16 +28,16 @@ use Rattle.n2_runs.proofs.Books.{book_kept, run_kept, known_same, start_kept}
 use Rattle.n2_runs.proofs.Views.{put, IsCoreAt, quiet_by, quiet, IsQuiet, quiet_count, turn_quiet, turn_enters, turn_event, turn_cases}
 
 -- ---- lists
-set_twice : {X : Type 0} (xs : List X) (k : ℕ) (x y : X) → slice_set (slice_set xs k x) k y ≡ slice_set xs k y
+pub set_twice : {X : Type 0} (xs : List X) (k : ℕ) (x y : X) → slice_set (slice_set xs k x) k y ≡ slice_set xs k y
 set_twice [] k x y = refl
 set_twice (z ∷ zs) zero x y = refl
 set_twice (z ∷ zs) (suc k) x y = ap (λ ys. z ∷ ys) (set_twice zs k x y)
 
-append_nil : {X : Type 0} (xs : List X) → xs ++ [] ≡ xs
+pub append_nil : {X : Type 0} (xs : List X) → xs ++ [] ≡ xs
 append_nil [] = refl
 append_nil (x ∷ xs) = ap (λ ys. x ∷ ys) (append_nil xs)
 
-get_next : {X : Type 0} (before : List X) (x : X) (after : List X) → slice_get (before ++ x ∷ after) (length before) ≡ Some x
+pub get_next : {X : Type 0} (before : List X) (x : X) (after : List X) → slice_get (before ++ x ∷ after) (length before) ≡ Some x
 get_next [] x after = refl
 get_next (y ∷ before) x after = get_next before x after
 
@@ -165,7 +165,7 @@ fresh_behind b map room w k row c e = record {
   then = ap (λ n. quiets b map k row w n c) (sym e);
 }
 
-same_some : {X : Type 0} (x y : X) → ◌≡◌ {A = Option X} (Some x) (Some y) → x ≡ y
+pub same_some : {X : Type 0} (x y : X) → ◌≡◌ {A = Option X} (Some x) (Some y) → x ≡ y
 same_some x y e = grind arith
 
 -- a machine with other cores
@@ -354,7 +354,7 @@ module _ (b : Board) (images : List Image) (map : AddressMap) (valid : IsValid b
       same : (j : ℕ) → j ≡ 0 + j
       same j = omega arith
 
-fresh_started : (rows : List CoreRow) (images : List Image) (k : ℕ) (c : Core) → slice_get (started_cores rows images) k ≡ Some c → c.local ≡ 0
+pub fresh_started : (rows : List CoreRow) (images : List Image) (k : ℕ) (c : Core) → slice_get (started_cores rows images) k ≡ Some c → c.local ≡ 0
 fresh_started [] images k c e = absurd (cc)
 fresh_started (row ∷ rows) [] k c e = absurd (cc)
 fresh_started (row ∷ rows) (image ∷ images) zero c e = ap (λ (d : Core). d.local) (same_some c (started_core row image) (sym e))

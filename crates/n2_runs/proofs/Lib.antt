@@ -15,3 +15,7 @@ pub mod Books
 pub mod Stopped
 pub mod Views
 pub mod Ahead
+pub mod Sames
+pub mod Counted
+pub mod Compared
+pub mod Followed

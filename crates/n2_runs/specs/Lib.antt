@@ -4,3 +4,5 @@ pub mod Agree
 pub mod Along
 pub mod Knows
 pub mod Recorded
+pub mod Same
+pub mod Replay

@@ -1,12 +1,16 @@
 //! Laws on journals: what a run wrote replays.
 
-ghost use Rattle.std.specs.Prelude.{◌≡◌, ℕ, List, length, IsTrue};
+ghost use Rattle.std.specs.Prelude.{◌≡◌, ◌↔◌, ℕ, List, length, true, IsTrue, Ok};
 ghost use Rattle.n2_elf.specs.declared.image.Image.{Image};
 ghost use Rattle.n2_parts.specs.declared.board.Board.{Board};
 ghost use Rattle.n2_parts.specs.Valid.{IsValid};
 ghost use Rattle.n2_board.specs.AddressMap.{AddressMap, address_map};
-ghost use Rattle.n2_runs.specs.Machine.{start, run, is_finished};
+ghost use Rattle.n2_journal.specs.declared.entry.Entry.{Entry};
+ghost use Rattle.n2_journal.specs.Journals.{Content};
+ghost use Rattle.n2_runs.specs.Machine.{Machine, start, run, is_finished};
 ghost use Rattle.n2_runs.specs.Recorded.{journal_of, actors_of, Records};
+ghost use Rattle.n2_runs.specs.Same.{same_entry};
+ghost use Rattle.n2_runs.specs.Replay.{replayed};
 
 /// What a run wrote replays. The run along the order that its journal tells comes to the same state of
 /// the machine: what cores share, the cores, the entries and the script that is left. So the journal of
@@ -14,4 +18,17 @@ ghost use Rattle.n2_runs.specs.Recorded.{journal_of, actors_of, Records};
 pub fn finished_runs()
     ensures state { (b : Board) (images : List Image) (map : AddressMap) (order : List ℕ) → IsValid b → map ≡ address_map b images → length images ≡ length b.core → run b map (start b images) (actors_of (journal_of (run b map (start b images) order))) ≡ run b map (start b images) order }
     ensures records { (b : Board) (images : List Image) (map : AddressMap) (order : List ℕ) → IsValid b → map ≡ address_map b images → length images ≡ length b.core → IsTrue (is_finished b (run b map (start b images) order)) → Records b map (start b images) (journal_of (run b map (start b images) order)) }
+{}
+
+/// The test of two entries tells whether they are equal.
+pub fn same_entries()
+    ensures { (entry other : Entry) → same_entry entry other ≡ true ↔ entry ≡ other }
+{}
+
+/// Replay finds what is no journal of a finished run. It comes to the end exactly where the journal is
+/// that of a finished run, and then the machine is the one after the run along the journal's order; so
+/// the journal of each finished run replays to that run's end.
+pub fn replays()
+    ensures records { (b : Board) (images : List Image) (map : AddressMap) (j : Content) (m : Machine) → length images ≡ length b.core → replayed b map (start b images) j ≡ Ok m ↔ (Records b map (start b images) j × (m ≡ run b map (start b images) (actors_of j))) }
+    ensures finished { (b : Board) (images : List Image) (map : AddressMap) (order : List ℕ) → IsValid b → map ≡ address_map b images → length images ≡ length b.core → IsTrue (is_finished b (run b map (start b images) order)) → replayed b map (start b images) (journal_of (run b map (start b images) order)) ≡ Ok (run b map (start b images) order) }
 {}

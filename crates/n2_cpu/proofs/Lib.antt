@@ -1,0 +1,9 @@
+pub mod Straying
+pub mod Stepping
+pub mod Lines
+pub mod Touching
+pub mod Meaning
+pub mod Doing
+pub mod Turning
+pub mod Bypassing
+pub mod Making

@@ -1,0 +1,21 @@
+use Rattle.std.proofs.Common.{◌≡◌, Option, Some, None, false, refl, sym, ap, ◌∙◌}
+use Rattle.n2_bus.specs.declared.request.Request.{Request}
+use Rattle.n2_front.specs.Core.{stop_of}
+use Rattle.n2_front.specs.Turn.{wants_by}
+use Rattle.n2_cpu.specs.declared.turns.TheConstants.{NOTHING}
+use Rattle.n2_cpu.specs.Aims.{intent_of}
+use Rattle.n2_cpu.proofs.Making.{makes_next, wanted_by, step_made, none_of}
+use Rattle.n2_cpu.proofs.state.State.step.Goals as goal
+
+pub returns-in-None-clause-step : goal.returns-in-None-clause-step
+returns-in-None-clause-step c = λ b k row d w h shared found.
+    let s = c.args.self.now in
+    let r = c.aim-aim.new.regs in
+    let a = c.aim-aim.result in
+    let running : stop_of d ≡ None = sym h.stop ∙ none_of s.stop (sym c.is_some.ensures ∙ c.if-is_some.false) in
+    let wanted : wants_by s.dcache (intent_of d.front r a) ≡ None = sym (c.wants.ensures d.front r) ∙ c.in-None.is in
+    step_made b c.args.layout.now k row s c.make.new.self c.make.result d w running
+    (wanted_by b c.args.layout.now k row s d w r a h found (λ x. c.aim-aim.ensures.intent b w.book row d x h.regs h.data_slots h.code_slots h.holds.code_lines h.holds.watch) ∙ wanted)
+    (makes_next b c.args.layout.now s w r a c.make.new.self c.make.result false NOTHING d row k h shared found running
+    (λ x. c.aim-aim.ensures.intent b w.book row d x h.regs h.data_slots h.code_slots h.holds.code_lines h.holds.watch)
+    c.aim-aim.ensures.kept None wanted refl refl (c.make.ensures.made b w d.front.past))

@@ -1,0 +1,99 @@
+//! A core as its callers see it.
+
+ghost use Rattle.std.specs.Prelude.{◌≡◌, ℕ, Some, None, slice_get};
+ghost use Rattle.n2_parts.specs.declared.board.Board.{Board as BoardValue};
+ghost use Rattle.n2_parts.specs.declared.board.CoreRow.{CoreRow as CoreRowValue};
+ghost use Rattle.n2_board.specs.AddressMap.{AddressMap};
+ghost use Rattle.n2_bus.specs.declared.request.Request.{Request as RequestValue};
+ghost use Rattle.n2_watch.specs.World.{World, transferred};
+ghost use Rattle.n2_front.specs.Core.{Core as CoreValue, stop_of, log_full};
+ghost use Rattle.n2_front.specs.Turn as spec;
+ghost use Rattle.n2_cpu.specs.Stands.{IsShared, IsNext, IsStep, StandsFor, planned};
+
+use crate::state::State;
+use crate::turns::{Plan, Step};
+use n2_board::{Act, Layout, Stop};
+use n2_bus::{Reply, Request};
+use n2_exec::Regs;
+use std::marker::Model;
+
+/// A core with its private caches and its watch. Contracts see its parts, and say for which cores of
+/// the definitions it stands.
+#[derive(Debug, Drop)]
+pub struct Core {
+    state: State,
+}
+
+impl Model for Core {
+    ghost use Rattle.n2_cpu.specs.declared.state.State.{State};
+    ghost use Rattle.n2_cpu.specs.Stands.{IsSound};
+
+    ghost Value = { State };
+
+    ghost view = { λ c. c.state };
+
+    ghost invariant = { λ c. IsSound c.state };
+}
+
+impl Core {
+    /// What the next turn is.
+    pub fn plan(&self, layout: &Layout) -> Plan
+        ensures { (b : BoardValue) (k : ℕ) (row : CoreRowValue) (c : CoreValue) (w : World) → StandsFor b layout.now k self.now c w → slice_get b.core k ≡ Some row → result ≡ planned (stop_of c) (spec.wants b layout.now k row w.book c) }
+    {
+        self.state.plan(layout)
+    }
+
+    /// Makes the next turn, where it is without a transfer.
+    #[inline(always)]
+    pub fn step(&mut self, layout: &Layout) -> Step
+        ensures { (b : BoardValue) (k : ℕ) (row : CoreRowValue) (c : CoreValue) (w : World) → StandsFor b layout.now k self.old c w → IsShared b layout.now w → slice_get b.core k ≡ Some row → IsStep b layout.now k row self.old self.new result c w }
+    {
+        self.state.step(layout)
+    }
+
+    /// Makes a turn that is planned as Local.
+    pub fn local(&mut self, layout: &Layout) -> Option<Act>
+        ensures { (b : BoardValue) (k : ℕ) (row : CoreRowValue) (c : CoreValue) (w : World) → StandsFor b layout.now k self.old c w → IsShared b layout.now w → slice_get b.core k ≡ Some row → stop_of c ≡ None → spec.wants b layout.now k row w.book c ≡ None → IsNext b layout.now k self.new result (spec.core_turn b layout.now k row c w) }
+    {
+        match self.state.step(layout) {
+            Step::Made(act) => act,
+            Step::Wants(_) | Step::Over => None,
+        }
+    }
+
+    /// Makes a turn that is planned as Transfer, with what the bus replied.
+    pub fn answer(&mut self, layout: &Layout, _request: &Request, reply: &Reply) -> Option<Act>
+        ensures { (b : BoardValue) (k : ℕ) (row : CoreRowValue) (c : CoreValue) (w : World) (request : RequestValue) → StandsFor b layout.now k self.old c w → IsShared b layout.now w → slice_get b.core k ≡ Some row → stop_of c ≡ None → spec.wants b layout.now k row w.book c ≡ Some request → reply.now ≡ (transferred b layout.now k w request).reply → IsNext b layout.now k self.new result (spec.core_turn b layout.now k row c w) }
+    {
+        self.state.answer(layout, reply)
+    }
+
+    /// Stops a core whose plan is a Transfer, as the journal has no room for it.
+    pub fn full(&mut self)
+        requires { self.old.stop ≡ None }
+        ensures { (b : BoardValue) (map : AddressMap) (k : ℕ) (c : CoreValue) (w : World) → StandsFor b map k self.old c w → StandsFor b map k self.new (log_full c) w }
+    {
+        self.state.full();
+    }
+
+    /// Its registers.
+    pub fn regs(&self) -> Regs
+        ensures { result ≡ self.now.regs }
+    {
+        self.state.regs
+    }
+
+    /// The number of its next turn.
+    pub fn turns(&self) -> u64
+        ensures { result ≡ self.now.clock.turns }
+    {
+        self.state.clock.turns
+    }
+
+    /// Why it stopped; None exactly where it runs.
+    pub fn stop(&self) -> Option<Stop>
+        ensures { result ≡ self.now.stop }
+    {
+        self.state.stop
+    }
+}

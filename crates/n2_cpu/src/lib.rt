@@ -1,0 +1,13 @@
+//! A core with its private caches, one turn at a time.
+#![tactic(auto)]
+
+mod aim;
+mod cpu;
+mod judging;
+mod state;
+mod tasks;
+mod turns;
+mod wants;
+
+pub use cpu::Core;
+pub use turns::{Plan, Step};

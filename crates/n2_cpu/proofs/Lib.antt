@@ -7,3 +7,4 @@ pub mod Doing
 pub mod Turning
 pub mod Bypassing
 pub mod Making
+pub mod Starting

@@ -1,20 +1,25 @@
 //! A core as its callers see it.
 
-ghost use Rattle.std.specs.Prelude.{◌≡◌, ℕ, Some, None, slice_get};
+ghost use Rattle.std.specs.Prelude.{◌≡◌, ◌<◌, ℕ, List, length, IfOk, Some, None, slice_get};
+ghost use Rattle.n2_elf.specs.declared.image.Image.{Image as ImageValue};
 ghost use Rattle.n2_parts.specs.declared.board.Board.{Board as BoardValue};
 ghost use Rattle.n2_parts.specs.declared.board.CoreRow.{CoreRow as CoreRowValue};
 ghost use Rattle.n2_board.specs.AddressMap.{AddressMap};
 ghost use Rattle.n2_bus.specs.declared.request.Request.{Request as RequestValue};
-ghost use Rattle.n2_watch.specs.World.{World, transferred};
-ghost use Rattle.n2_front.specs.Core.{Core as CoreValue, stop_of, log_full};
+ghost use Rattle.n2_watch.specs.World.{World, start_world, transferred};
+ghost use Rattle.n2_watch.specs.Watched.{IsMapOf};
+ghost use Rattle.n2_front.specs.Core.{Core as CoreValue, started_core, stop_of, log_full};
 ghost use Rattle.n2_front.specs.Turn as spec;
 ghost use Rattle.n2_cpu.specs.Stands.{IsShared, IsNext, IsStep, StandsFor, planned};
 
 use crate::state::State;
 use crate::turns::{Plan, Step};
-use n2_board::{Act, Layout, Stop};
+use n2_board::{Act, Board, Layout, Stop};
 use n2_bus::{Reply, Request};
+use n2_elf::Image;
 use n2_exec::Regs;
+use n2_word::NoMemory;
+use std::alloc::Global;
 use std::marker::Model;
 
 /// A core with its private caches and its watch. Contracts see its parts, and say for which cores of
@@ -36,6 +41,23 @@ impl Model for Core {
 }
 
 impl Core {
+    /// A core before its first turn, with empty caches. It takes here all the memory that it ever
+    /// uses; NoMemory is its only error.
+    pub fn open(
+        alloc: Global,
+        core: u32,
+        board: &Board,
+        image: &Image,
+        layout: &Layout,
+    ) -> Result<Core, NoMemory>
+        requires core { core < length board.now.core }
+        requires map { IsMapOf board.now layout.now }
+        ensures { IfOk result (λ opened. (row : CoreRowValue) (images : List ImageValue) → slice_get board.now.core core ≡ Some row → StandsFor board.now layout.now core opened (started_core row image.now) (start_world board.now images)) }
+    {
+        let state = State::open(alloc, core, board, image, layout)?;
+        Ok(Core { state })
+    }
+
     /// What the next turn is.
     pub fn plan(&self, layout: &Layout) -> Plan
         ensures { (b : BoardValue) (k : ℕ) (row : CoreRowValue) (c : CoreValue) (w : World) → StandsFor b layout.now k self.now c w → slice_get b.core k ≡ Some row → result ≡ planned (stop_of c) (spec.wants b layout.now k row w.book c) }

@@ -4,6 +4,7 @@
 mod aim;
 mod cpu;
 mod judging;
+mod opening;
 mod state;
 mod tasks;
 mod turns;

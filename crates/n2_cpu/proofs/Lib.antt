@@ -8,3 +8,4 @@ pub mod Turning
 pub mod Bypassing
 pub mod Making
 pub mod Starting
+pub mod Proper

@@ -1,11 +1,12 @@
 //! A core as its callers see it.
 
-ghost use Rattle.std.specs.Prelude.{◌≡◌, ◌<◌, ℕ, List, length, IfOk, Some, None, slice_get};
+ghost use Rattle.std.specs.Prelude.{◌≡◌, ◌<◌, ℕ, List, length, IfOk, IsTrue, Some, None, slice_get};
 ghost use Rattle.n2_elf.specs.declared.image.Image.{Image as ImageValue};
 ghost use Rattle.n2_parts.specs.declared.board.Board.{Board as BoardValue};
 ghost use Rattle.n2_parts.specs.declared.board.CoreRow.{CoreRow as CoreRowValue};
 ghost use Rattle.n2_board.specs.AddressMap.{AddressMap};
 ghost use Rattle.n2_bus.specs.declared.request.Request.{Request as RequestValue};
+ghost use Rattle.n2_bus.specs.Wiring.{wiring_of, proper};
 ghost use Rattle.n2_watch.specs.World.{World, start_world, transferred};
 ghost use Rattle.n2_watch.specs.Watched.{IsMapOf};
 ghost use Rattle.n2_front.specs.Core.{Core as CoreValue, started_core, stop_of, log_full};
@@ -60,7 +61,8 @@ impl Core {
 
     /// What the next turn is.
     pub fn plan(&self, layout: &Layout) -> Plan
-        ensures { (b : BoardValue) (k : ℕ) (row : CoreRowValue) (c : CoreValue) (w : World) → StandsFor b layout.now k self.now c w → slice_get b.core k ≡ Some row → result ≡ planned (stop_of c) (spec.wants b layout.now k row w.book c) }
+        ensures planned { (b : BoardValue) (k : ℕ) (row : CoreRowValue) (c : CoreValue) (w : World) → StandsFor b layout.now k self.now c w → slice_get b.core k ≡ Some row → result ≡ planned (stop_of c) (spec.wants b layout.now k row w.book c) }
+        ensures proper { (b : BoardValue) (k : ℕ) (row : CoreRowValue) (c : CoreValue) (w : World) (request : RequestValue) → StandsFor b layout.now k self.now c w → slice_get b.core k ≡ Some row → result ≡ Plan.Transfer request → IsTrue (proper (wiring_of b) k request) }
     {
         self.state.plan(layout)
     }
@@ -68,7 +70,8 @@ impl Core {
     /// Makes the next turn, where it is without a transfer.
     #[inline(always)]
     pub fn step(&mut self, layout: &Layout) -> Step
-        ensures { (b : BoardValue) (k : ℕ) (row : CoreRowValue) (c : CoreValue) (w : World) → StandsFor b layout.now k self.old c w → IsShared b layout.now w → slice_get b.core k ≡ Some row → IsStep b layout.now k row self.old self.new result c w }
+        ensures step { (b : BoardValue) (k : ℕ) (row : CoreRowValue) (c : CoreValue) (w : World) → StandsFor b layout.now k self.old c w → IsShared b layout.now w → slice_get b.core k ≡ Some row → IsStep b layout.now k row self.old self.new result c w }
+        ensures proper { (b : BoardValue) (k : ℕ) (row : CoreRowValue) (c : CoreValue) (w : World) (request : RequestValue) → StandsFor b layout.now k self.old c w → slice_get b.core k ≡ Some row → result ≡ Step.Wants request → IsTrue (proper (wiring_of b) k request) }
     {
         self.state.step(layout)
     }

@@ -6,7 +6,7 @@ ghost use Rattle.n2_parts.specs.declared.board.Board.{Board as BoardValue};
 ghost use Rattle.n2_parts.specs.declared.board.CoreRow.{CoreRow as CoreRowValue};
 ghost use Rattle.n2_board.specs.AddressMap.{AddressMap};
 ghost use Rattle.n2_bus.specs.declared.request.Request.{Request as RequestValue};
-ghost use Rattle.n2_bus.specs.Transfer as transfers;
+ghost use Rattle.n2_bus.specs.Wiring.{wiring_of, proper};
 ghost use Rattle.n2_watch.specs.declared.past.Past.{Past as PastEvent};
 ghost use Rattle.n2_watch.specs.Book.{knowledge};
 ghost use Rattle.n2_watch.specs.World.{World, transferred};
@@ -136,7 +136,8 @@ impl State {
     /// What the next turn is.
     pub fn plan(&self, layout: &Layout) -> Plan
         requires { IsSound self.now }
-        ensures { (b : BoardValue) (k : ℕ) (row : CoreRowValue) (c : Core) (w : World) → StandsFor b layout.now k self.now c w → slice_get b.core k ≡ Some row → result ≡ planned self.now.stop (spec.wants b layout.now k row w.book c) }
+        ensures planned { (b : BoardValue) (k : ℕ) (row : CoreRowValue) (c : Core) (w : World) → StandsFor b layout.now k self.now c w → slice_get b.core k ≡ Some row → result ≡ planned self.now.stop (spec.wants b layout.now k row w.book c) }
+        ensures proper { (b : BoardValue) (k : ℕ) (row : CoreRowValue) (c : Core) (w : World) (request : RequestValue) → StandsFor b layout.now k self.now c w → slice_get b.core k ≡ Some row → result ≡ Plan.Transfer request → IsTrue (proper (wiring_of b) k request) }
     {
         if self.stop.is_some() {
             return Plan::Over;
@@ -162,6 +163,7 @@ impl State {
         requires { IsSound self.old }
         ensures sound { IsSound self.new }
         ensures step { (b : BoardValue) (k : ℕ) (row : CoreRowValue) (c : Core) (w : World) → StandsFor b layout.now k self.old c w → IsShared b layout.now w → slice_get b.core k ≡ Some row → IsStep b layout.now k row self.old self.new result c w }
+        ensures proper { (b : BoardValue) (k : ℕ) (row : CoreRowValue) (c : Core) (w : World) (request : RequestValue) → StandsFor b layout.now k self.old c w → slice_get b.core k ≡ Some row → result ≡ Step.Wants request → IsTrue (proper (wiring_of b) k request) }
     {
         if self.stop.is_some() {
             return Step::Over;

@@ -4,6 +4,7 @@ use Rattle.n2_front.specs.Core.{stop_of}
 use Rattle.n2_front.specs.Turn.{wants_by}
 use Rattle.n2_cpu.specs.declared.turns.TheConstants.{NOTHING}
 use Rattle.n2_cpu.specs.Aims.{intent_of}
+use Rattle.n2_cpu.proofs.Proper.{wanted_proper}
 use Rattle.n2_cpu.proofs.Making.{makes_next, wanted_by, step_made, none_of}
 use Rattle.n2_cpu.proofs.state.State.step.Goals as goal
 
@@ -19,3 +20,11 @@ returns-in-None-clause-step c = λ b k row d w h shared found.
     (makes_next b c.args.layout.now s w r a c.make.new.self c.make.result false NOTHING d row k h shared found running
     (λ x. c.aim-aim.ensures.intent b w.book row d x h.regs h.data_slots h.code_slots h.holds.code_lines h.holds.watch)
     c.aim-aim.ensures.kept None wanted refl refl (c.make.ensures.made b w d.front.past))
+
+pub returns-in-Some-clause-proper : goal.returns-in-Some-clause-proper
+returns-in-Some-clause-proper c = λ b k row d w request h found e.
+    let same : c.in-Some.request ≡ request = cc in
+    wanted_proper b c.args.layout.now row c.args.self.now d w c.aim-aim.new.regs c.aim-aim.result k h found
+    (λ x. c.aim-aim.ensures.intent b w.book row d x h.regs h.data_slots h.code_slots h.holds.code_lines h.holds.watch)
+    c.aim-aim.ensures.fit request
+    (sym (c.wants.ensures d.front c.aim-aim.new.regs) ∙ c.in-Some.is ∙ ap (λ (x : Request). Some x) same)

@@ -9,3 +9,4 @@ pub mod Bypassing
 pub mod Making
 pub mod Starting
 pub mod Proper
+pub mod Others

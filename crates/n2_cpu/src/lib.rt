@@ -4,6 +4,7 @@
 mod aim;
 mod cpu;
 mod judging;
+pub mod laws;
 mod opening;
 mod state;
 mod tasks;

@@ -1,0 +1,5 @@
+pub mod Cursors
+pub mod Lists
+pub mod Mnemonics
+pub mod Numbers
+pub mod Operands

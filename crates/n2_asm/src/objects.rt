@@ -2,6 +2,7 @@
 
 ghost use Rattle.std.specs.Prelude.{◌≡◌, ◌≢◌, IfOk, IfErr, Ok, Err};
 ghost use Rattle.std.specs.BTreeMap.{get_by_text};
+ghost use Rattle.n2_elf.specs.Writing.{IsWritable};
 ghost use Rattle.n2_asm.specs.Seen.{object_seen, survey_seen, output_seen};
 ghost use Rattle.n2_asm.specs.Sources as spec;
 
@@ -71,9 +72,8 @@ fn image(start: Option<Number>, out: Builder) -> Result<Object, AsmFault>
     }
 }
 
-/// The image of a source with the addresses of its labels, or its first faulty row.
 #[tactic(auto, unfolding(crate::specs::Sources::assembled))]
-pub fn assemble(alloc: Global, source: &[u8]) -> Result<Object, AsmFault>
+fn assembled(alloc: Global, source: &[u8]) -> Result<Object, AsmFault>
     ensures ok { IfOk result (λ o. spec.assembled source.now ≡ Ok (object_seen o)) }
     ensures fault { IfErr result (λ e. e ≢ AsmFault.NoMemory → spec.assembled source.now ≡ Err e) }
 {
@@ -81,4 +81,14 @@ pub fn assemble(alloc: Global, source: &[u8]) -> Result<Object, AsmFault>
     let mut out = put_rows(alloc, &survey, source)?;
     close(alloc, &mut out)?;
     image(find(&survey.names, "_start"), out)
+}
+
+/// The image of a source with the addresses of its labels, or its first faulty row. The image can be
+/// written by `Image::write` of `n2_elf`.
+pub fn assemble(alloc: Global, source: &[u8]) -> Result<Object, AsmFault>
+    ensures ok { IfOk result (λ o. spec.assembled source.now ≡ Ok (object_seen o)) }
+    ensures writable { IfOk result (λ o. IsWritable o.image) }
+    ensures fault { IfErr result (λ e. e ≢ AsmFault.NoMemory → spec.assembled source.now ≡ Err e) }
+{
+    assembled(alloc, source)
 }

@@ -54,7 +54,8 @@ fn put_step(devices: &mut Devices, words: &[&str], out: &mut Vec<u8>) -> Result<
     }
 }
 
-fn count_in(text: &str) -> Result<u32, NoAnswer> {
+/// A decimal number of 32 bits.
+pub fn count_in(text: &str) -> Result<u32, NoAnswer> {
     Ok(number_in(0xffff_ffff, text)? as u32)
 }
 

@@ -1,8 +1,9 @@
-//! The program `n2_board_cases`: cases of images, boards, layouts, devices and memories, a row of
-//! standard input each, are answered by the libraries. `n2_cases` says how rows are written.
+//! The program `n2_board_cases`: cases of images, boards, layouts, devices, memories and buses, a row
+//! of standard input each, are answered by the libraries. `n2_cases` says how rows are written.
 #![tactic(auto)]
 
 mod boards;
+mod bus;
 mod devices;
 mod images;
 mod layouts;
@@ -31,6 +32,7 @@ impl Cases for BoardCases {
             "layout" => layouts::layout(alloc, rest, out),
             "devices" => devices::devices(alloc, rest, out),
             "memory" => memories::memory(alloc, rest, out),
+            "bus" => bus::bus(alloc, rest, out),
             _ => Err(NoAnswer::NoCase),
         }
     }

@@ -141,10 +141,19 @@ fn written(memory: &mut Memory, address: u32, width: Width, value: u32) -> Resul
 }
 
 fn line_put(memory: &mut Memory, line: u32, word: u32) -> Result<(), NoAnswer> {
-    if !memory.has_line(line) || word > 0xffff_fff0 {
+    if !memory.has_line(line) {
         return Err(NoAnswer::NoCase);
     }
-    let words = [
+    memory.put_line(line, &counted(word)?);
+    Ok(())
+}
+
+/// Eight words, of which each is the one before and 1.
+pub fn counted(word: u32) -> Result<[u32; 8], NoAnswer> {
+    if word > 0xffff_fff0 {
+        return Err(NoAnswer::NoCase);
+    }
+    Ok([
         word,
         word + 1,
         word + 2,
@@ -153,7 +162,5 @@ fn line_put(memory: &mut Memory, line: u32, word: u32) -> Result<(), NoAnswer> {
         word + 5,
         word + 6,
         word + 7,
-    ];
-    memory.put_line(line, &words);
-    Ok(())
+    ])
 }

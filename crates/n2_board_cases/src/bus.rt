@@ -14,12 +14,15 @@ use n2_bus::{Bus, Reply, Request};
 use n2_cases::{NoAnswer, put, put_word, width_in, word_in, words_of};
 use n2_elf::Image;
 use n2_parts::Board;
+use n2_word::{Width, aligned, line_of};
 use std::alloc::Global;
 
 /// `bus TEXT | REQUEST | ..`: what the bus of the board of a text, of one to three cores with empty
 /// images whose entry is 0, replies to one request after another. A request is the number of its actor and
 /// then `fillcode LINE`, `filldata LINE`, `writeback LINE WORD`, of eight words as for memories, `read WIDTH
-/// ADDRESS`, `write WIDTH ADDRESS VALUE`, `sample`, `tick N`, `receive UART`, or `drain UART`.
+/// ADDRESS`, `write WIDTH ADDRESS VALUE`, `sample`, `tick N`, `receive UART`, or `drain UART`. Between requests,
+/// `line LINE`, `word ADDRESS` and `peek WIDTH ADDRESS` answer what a memory behind the bus holds, and `poke
+/// WIDTH ADDRESS VALUE` stores there.
 pub fn bus(alloc: Global, rest: &str, out: &mut Vec<u8>) -> Result<(), NoAnswer> {
     let (text, requests) = rest.split_once('|').ok_or(NoAnswer::NoCase)?;
     match board_of(alloc, text, out)? {
@@ -51,7 +54,8 @@ fn opened(alloc: Global, board: &Board) -> Result<Bus, NoAnswer>
     }
 }
 
-fn empty(alloc: Global) -> Result<Image, NoAnswer>
+/// An image without bytes, whose entry is 0.
+pub fn empty(alloc: Global) -> Result<Image, NoAnswer>
     ensures { IfOk result IsSized }
 {
     match Image::raw(alloc, &[], 0) {
@@ -86,6 +90,55 @@ fn put_replies(
 }
 
 fn put_answer(bus: &mut Bus, words: &[&str], out: &mut Vec<u8>) -> Result<(), NoAnswer> {
+    match *words {
+        ["line", line] => put_line_of(bus, word_in(line)?, out),
+        ["word", address] => put_word_at(bus, word_in(address)?, out),
+        ["peek", width, address] => put_peeked(bus, word_in(address)?, width_in(width)?, out),
+        ["poke", width, address, value] => {
+            poke(bus, word_in(address)?, width_in(width)?, word_in(value)?)
+        }
+        _ => put_request(bus, words, out),
+    }
+}
+
+/// Appends the words of a line of a memory.
+fn put_line_of(bus: &Bus, line: u32, out: &mut Vec<u8>) -> Result<(), NoAnswer> {
+    if !bus.has_line(line) {
+        return put(out, " none;");
+    }
+    put_words(&bus.line(line), out)?;
+    put(out, ";")
+}
+
+/// Appends the word of a memory at an address.
+fn put_word_at(bus: &Bus, address: u32, out: &mut Vec<u8>) -> Result<(), NoAnswer> {
+    if !bus.has_line(line_of(address)) || !aligned(address, Width::Word) {
+        return put(out, " none;");
+    }
+    put_word(out, " ", bus.word(address))?;
+    put(out, ";")
+}
+
+/// Appends what a memory holds at an address in a width.
+fn put_peeked(bus: &Bus, address: u32, width: Width, out: &mut Vec<u8>) -> Result<(), NoAnswer> {
+    if !bus.has_line(line_of(address)) || !aligned(address, width) {
+        return put(out, " none;");
+    }
+    put_word(out, " ", bus.read(address, width))?;
+    put(out, ";")
+}
+
+/// Stores in a memory.
+fn poke(bus: &mut Bus, address: u32, width: Width, value: u32) -> Result<(), NoAnswer> {
+    if bus.has_line(line_of(address)) && aligned(address, width) {
+        bus.write(address, width, value);
+        Ok(())
+    } else {
+        Err(NoAnswer::NoCase)
+    }
+}
+
+fn put_request(bus: &mut Bus, words: &[&str], out: &mut Vec<u8>) -> Result<(), NoAnswer> {
     match words {
         [actor, kind, fields @ ..] => {
             put_asked(bus, count_in(actor)?, &request_in(kind, fields)?, out)

@@ -1,5 +1,5 @@
-//! The program `n2_board_cases`: cases of images, boards, layouts, devices, memories and buses, a row
-//! of standard input each, are answered by the libraries. `n2_cases` says how rows are written.
+//! The program `n2_board_cases`: cases of images, boards, layouts, devices, memories, buses and watches, a
+//! row of standard input each, are answered by the libraries. `n2_cases` says how rows are written.
 #![tactic(auto)]
 
 mod boards;
@@ -8,6 +8,7 @@ mod devices;
 mod images;
 mod layouts;
 mod memories;
+mod watches;
 
 use n2_cases::{Cases, NoAnswer, answer_rows};
 use std::alloc::Global;
@@ -33,6 +34,7 @@ impl Cases for BoardCases {
             "devices" => devices::devices(alloc, rest, out),
             "memory" => memories::memory(alloc, rest, out),
             "bus" => bus::bus(alloc, rest, out),
+            "watch" => watches::watch(alloc, rest, out),
             _ => Err(NoAnswer::NoCase),
         }
     }

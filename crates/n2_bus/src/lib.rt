@@ -8,8 +8,6 @@ ghost use Rattle.n2_bus.specs.Transfer as transfers;
 
 pub mod laws;
 mod request;
-#[cfg(test)]
-mod tests;
 
 use n2_board::{Layout, Place, Places};
 use n2_devices::Devices;

@@ -52,12 +52,8 @@ impl Journal {
     pub fn with_room(alloc: Global, limit: u32, cores: u32) -> Result<Journal, NoMemory>
         ensures { IfOk result (λ j. j ≡ record { content = empty_of cores; limit = limit }) }
     {
-        let Ok(entries) = Vec::with_capacity(alloc, limit as usize) else {
-            return Err(NoMemory);
-        };
-        let Ok(tails) = vec![in alloc; 0u64; cores as usize] else {
-            return Err(NoMemory);
-        };
+        let entries = Vec::with_capacity(alloc, limit as usize)?;
+        let tails = vec![in alloc; 0u64; cores as usize]?;
         Ok(Journal {
             entries,
             tails,
@@ -132,21 +128,12 @@ pub fn order(alloc: Global, journal: &Journal) -> Result<Vec<(u32, u64)>, NoMemo
     Ok(turns)
 }
 
-fn put_turns(out: &mut Vec<(u32, u64)>, actor: u32, turns: u64) -> Result<(), NoMemory>
-    ensures { OnOk result (out.new.items ≡ out.old.items ++ (actor, turns) ∷ []) }
-{
-    match out.push((actor, turns)) {
-        Ok(()) => Ok(()),
-        Err(_) => Err(NoMemory),
-    }
-}
-
 fn put_entry_turns(out: &mut Vec<(u32, u64)>, entries: &[Entry]) -> Result<(), NoMemory>
     requires { All (λ entry. entry.local + 1 < 2 ^ 64) entries.now }
     ensures { OnOk result (out.new.items ≡ out.old.items ++ map (λ entry. (entry.actor, entry.local + 1)) entries.now) }
 {
     for entry in entries {
-        put_turns(out, entry.actor, entry.local + 1)?;
+        out.push((entry.actor, entry.local + 1))?;
     }
     Ok(())
 }
@@ -156,7 +143,7 @@ fn put_tail_turns(out: &mut Vec<(u32, u64)>, tails: &[u64]) -> Result<(), NoMemo
     ensures { OnOk result (out.new.items ≡ out.old.items ++ tail_turns 0 tails.now) }
 {
     for (core, tail) in tails.iter().enumerate() {
-        put_turns(out, core as u32, *tail)?;
+        out.push((core as u32, *tail))?;
     }
     Ok(())
 }

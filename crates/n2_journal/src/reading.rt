@@ -65,10 +65,8 @@ impl Reader {
         if !self.tails.is_empty() || self.entries.len() >= MOST_ENTRIES {
             return Ok(false);
         }
-        match self.entries.push(entry) {
-            Ok(()) => Ok(true),
-            Err(_) => Err(NoMemory),
-        }
+        self.entries.push(entry)?;
+        Ok(true)
     }
 
     /// The tail of the next core.
@@ -79,10 +77,8 @@ impl Reader {
         if core != self.tails.len() as u64 {
             return Ok(false);
         }
-        match self.tails.push(tail) {
-            Ok(()) => Ok(true),
-            Err(_) => Err(NoMemory),
-        }
+        self.tails.push(tail)?;
+        Ok(true)
     }
 
     /// `end`, alone in its row and behind a tail.

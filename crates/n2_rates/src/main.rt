@@ -1,7 +1,9 @@
-//! The program `n2_rates`: `n2_rates KIND N` makes N transfers of one kind on a small board, and prints the
-//! kind, N and the sum of all numbers that were replied. `n2_rates all N` does so for each kind, each on
-//! a bus of its own. `bench/rates.py` times it.
+//! The program `n2_rates`: `n2_rates KIND N` makes N transfers, judgements or notes of one kind on a small
+//! board, and prints the kind, N and the sum of all numbers that were replied, or what was refused.
+//! `n2_rates all N` does so for each kind, each on a bus or a watch of its own. `bench/rates.py` times it.
 #![tactic(auto)]
+
+mod watches;
 
 use n2_board::Layout;
 use n2_bus::{Bus, Reply, Request};
@@ -17,7 +19,7 @@ const CORE: u32 = 0;
 
 const DEVICES: u32 = 1;
 
-const KINDS: [&str; 10] = [
+const KINDS: [&str; 16] = [
     "fill",
     "back",
     "read",
@@ -28,6 +30,12 @@ const KINDS: [&str; 10] = [
     "tick",
     "receive",
     "drain",
+    "judge1",
+    "judge1000",
+    "judge100000",
+    "note1",
+    "note1000",
+    "note100000",
 ];
 
 /// Who makes the transfers of a kind, and the request.
@@ -96,8 +104,21 @@ fn transfers(bus: &mut Bus, actor: u32, request: &Request, n: u32) -> Option<u32
     Some(sum)
 }
 
-/// The sum of what N transfers of a kind are replied on a new bus.
+/// What the judgements or notes of a kind refuse on a new watch, or the sum of what its transfers are
+/// replied on a new bus.
 fn sum_of_kind(alloc: Global, kind: &str, n: u32) -> Option<u32> {
+    match kind {
+        "judge1" => watches::refused(alloc, 1, true, n),
+        "judge1000" => watches::refused(alloc, 1_000, true, n),
+        "judge100000" => watches::refused(alloc, 100_000, true, n),
+        "note1" => watches::refused(alloc, 1, false, n),
+        "note1000" => watches::refused(alloc, 1_000, false, n),
+        "note100000" => watches::refused(alloc, 100_000, false, n),
+        _ => sum_of_transfers(alloc, kind, n),
+    }
+}
+
+fn sum_of_transfers(alloc: Global, kind: &str, n: u32) -> Option<u32> {
     let (actor, request) = request_of(kind)?;
     let mut bus = opened(alloc)?;
     transfers(&mut bus, actor, &request, n)

@@ -106,16 +106,13 @@ fn grow(runs: &mut Vec<Run>, k: usize)
 fn begin(runs: &mut Vec<Run>, at: u32, line: u32, slot: u32) -> Result<(), NoMemory>
     ensures { OnOk result (runs.new.items ≡ runs.old.items ++ begun at line slot ∷ []) }
 {
-    let run = Run {
+    runs.push(Run {
         first: line,
         count: 1,
         at,
         slot,
-    };
-    match runs.push(run) {
-        Ok(()) => Ok(()),
-        Err(_) => Err(NoMemory),
-    }
+    })?;
+    Ok(())
 }
 
 /// The record of a line goes into the last run where it follows, and else begins one.
@@ -136,16 +133,13 @@ fn put_run(runs: &mut Vec<Run>, at: u32, line: u32, slot: u32) -> Result<(), NoM
 fn put_record(records: &mut Vec<Record>, line: u32, slot: u32) -> Result<(), NoMemory>
     ensures { OnOk result (records.new.items ≡ put records.old.items line slot) }
 {
-    let kept = Record {
+    records.push(Record {
         line,
         slot,
         first: 0,
         stored: 0,
-    };
-    match records.push(kept) {
-        Ok(()) => Ok(()),
-        Err(_) => Err(NoMemory),
-    }
+    })?;
+    Ok(())
 }
 
 /// The slot of a line's guard.
@@ -200,7 +194,20 @@ impl Built {
     }
 }
 
-/// The records of the lines of memories that a core may touch.
+/// How many lines of memories a core may touch.
+fn count_touchable(core: u32, memories: &[MemoryRow], layout: &Layout) -> usize {
+    let mut count = 0;
+    let mut from = 0;
+    'lines: while let Some(line) = next_line(memories, from) {
+        if is_touchable(core, layout.class_of(line)) {
+            count += 1;
+        }
+        from = line + 1;
+    }
+    count
+}
+
+/// The records of the lines of memories that a core may touch. Room is taken for those alone.
 pub fn open_lines(
     alloc: Global,
     core: u32,
@@ -213,7 +220,7 @@ pub fn open_lines(
 {
     let mut built = Built {
         runs: Vec::new(alloc),
-        records: Vec::new(alloc),
+        records: Vec::with_capacity(alloc, count_touchable(core, memories, layout))?,
     };
     let mut from = 0;
     'lines: while let Some(line) = next_line(memories, from) {
@@ -263,10 +270,7 @@ fn is_held(class: &RegionClass, core: u32) -> bool
 fn unset(alloc: Global, count: usize) -> Result<Vec<bool>, NoMemory>
     ensures { IfOk result (λ flags. flags.items ≡ replicate count false) }
 {
-    match vec![in alloc; false; count] {
-        Ok(flags) => Ok(flags),
-        Err(_) => Err(NoMemory),
-    }
+    Ok(vec![in alloc; false; count]?)
 }
 
 /// For each slot whether a core owns its guard at the start: the regions that it holds, and no mutex.
@@ -287,8 +291,5 @@ pub fn open_owned(alloc: Global, core: u32, regions: &[RegionRow]) -> Result<Vec
 pub fn open_pointers(alloc: Global, count: usize) -> Result<Vec<u32>, NoMemory>
     ensures { IfOk result (λ pointers. pointers.items ≡ replicate count 0) }
 {
-    match vec![in alloc; 0; count] {
-        Ok(pointers) => Ok(pointers),
-        Err(_) => Err(NoMemory),
-    }
+    Ok(vec![in alloc; 0; count]?)
 }

@@ -112,10 +112,7 @@ fn find_in(runs: &[Run], records: &[Record], line: u32) -> Option<usize>
 fn zeros(alloc: Global, count: usize) -> Result<Vec<u64>, NoMemory>
     ensures { IfOk result (λ zeros. zeros.items ≡ replicate count 0) }
 {
-    match vec![in alloc; 0; count] {
-        Ok(zeros) => Ok(zeros),
-        Err(_) => Err(NoMemory),
-    }
+    Ok(vec![in alloc; 0; count]?)
 }
 
 impl Records {

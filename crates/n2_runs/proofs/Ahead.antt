@@ -1,7 +1,6 @@
 -- A run is ahead of the turns up to its last transfer by turns without transfers alone, each of which could as well come
 -- later: nothing of what other actors do is seen by it.
-use Rattle.std.proofs.Common.{◌≡◌, ◌≢◌, ℕ, zero, suc, ◌<◌, ◌≤◌, ◌+◌, ◌++◌, ◌⊎◌, inl, inr, Bool, true, false, eqb, List, [], ◌∷◌, length, map, replicate, slice_get, slice_set, Option, Some, None, refl, ap, sym, ◌∙◌, arith, subst, append_assoc, length-append, length-set}
-use Rattle.std.specs.List.{flat_map}
+use Rattle.std.proofs.Common.{◌≡◌, ◌≢◌, ℕ, zero, suc, ◌<◌, ◌+◌, ◌++◌, inl, inr, Bool, true, false, eqb, List, [], ◌∷◌, length, map, replicate, slice_get, slice_set, Option, Some, None, refl, ap, sym, ◌∙◌, arith, subst, append_assoc, length-append, length-set}
 use Rattle.std.proofs.lemmas.Bool.Decides.{nat_tests}
 use Rattle.std.proofs.lemmas.Grind.{flat_map-append}
 use Rattle.std.proofs.lemmas.List.{map-append}
@@ -14,11 +13,11 @@ use Rattle.n2_board.specs.AddressMap.{AddressMap, address_map}
 use Rattle.n2_bus.specs.declared.request.Request.{Request}
 use Rattle.n2_bus.specs.Transfer.{request_for}
 use Rattle.n2_journal.specs.declared.entry.Entry.{Entry}
-use Rattle.n2_journal.specs.Journals.{tail_turns, order_of}
+use Rattle.n2_journal.specs.Journals.{tail_turns}
 use Rattle.n2_watch.specs.World.{World, Transferred, transferred}
 use Rattle.n2_front.specs.Core.{Core, stop_of, started_core}
 use Rattle.n2_front.specs.Turn.{CoreTurn, wants, core_turn}
-use Rattle.n2_runs.specs.Machine.{Machine, Made, unmoved, has_room, entry_of, entered, event_made, started_cores, start, turn, run, tails}
+use Rattle.n2_runs.specs.Machine.{Machine, Made, has_room, entry_of, entered, event_made, started_cores, start, turn, run, tails}
 use Rattle.n2_runs.specs.Recorded.{journal_of, actors_in, actors_of}
 use Rattle.n2_runs.specs.Knows.{KnowsSame, IsBookKept}
 use Rattle.n2_runs.proofs.Lists.{set_each, slice_get-set_same, slice_get-set_other, slice_set-same}

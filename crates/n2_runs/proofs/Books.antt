@@ -2,7 +2,6 @@
 -- leaves to the other cores what is theirs.
 use Rattle.std.proofs.Common.{◌≡◌, ◌≢◌, ℕ, ◌<◌, Bool, true, false, cond, eqb, List, [], ◌∷◌, ◌++◌, length, slice_get, slice_set, Option, Some, None, refl, ap, sym, ◌∙◌, arith, subst, length-set}
 use Rattle.std.specs.Prelude.{option_map}
-use Rattle.std.proofs.lemmas.Bool.Decides.{nat_tests}
 use Rattle.std.proofs.lemmas.List.{length-map}
 use Rattle.std.proofs.lemmas.Option.{slice_get-map}
 use Rattle.n2_word.specs.declared.Width.TheVariants.{Word}
@@ -16,12 +15,10 @@ use Rattle.n2_exec.specs.Effect.{effect_of_word}
 use Rattle.n2_elf.specs.declared.image.Image.{Image}
 use Rattle.n2_parts.specs.declared.board.Board.{Board}
 use Rattle.n2_parts.specs.declared.board.CoreRow.{CoreRow}
-use Rattle.n2_parts.specs.declared.board.MailboxRow.{MailboxRow}
 use Rattle.n2_parts.specs.declared.board.DeviceEvent.{DeviceEvent}
 use Rattle.n2_parts.specs.declared.board.DeviceEvent.TheVariants as events
 use Rattle.n2_parts.specs.declared.stops.Stop.{Stop}
 use Rattle.n2_parts.specs.Valid.{IsValid}
-use Rattle.n2_board.specs.declared.guards.Guard.{Guard}
 use Rattle.n2_board.specs.AddressMap.{AddressMap, address_map}
 use Rattle.n2_dcache.specs.declared.Held.{Held}
 use Rattle.n2_dcache.specs.Cache.{slot_at, own_set, has_line, found}
@@ -32,7 +29,7 @@ use Rattle.n2_watch.specs.declared.past.Past.{Past}
 use Rattle.n2_watch.specs.declared.past.Past.TheVariants.{Clean}
 use Rattle.n2_watch.specs.declared.access.Access.TheVariants.{Fetch}
 use Rattle.n2_watch.specs.Discipline.{Breach, breach}
-use Rattle.n2_watch.specs.Book.{Book, start_book}
+use Rattle.n2_watch.specs.Book.{start_book}
 use Rattle.n2_watch.specs.World.{World, Transferred, transferred}
 use Rattle.n2_watch.specs.Kept.{IsPosted, IsKept}
 use Rattle.n2_watch.specs.Shapes.{HasBoardShape, is_access}
@@ -48,7 +45,7 @@ use Rattle.n2_front.specs.Core.{Core, TurnKind, SampleTurn, EvictTurn, StepTurn,
 use Rattle.n2_front.specs.Turn.{Intent, Samples, Evicts, Interrupts, Stops, FillsCode, Does, judged_task, executes, with_code, fetches, steps, intent_by, intent, back, filled_or, wants_line, wants_op, wants_by, wants, Turned, with_line, is_in_way, emptied, loads, stores, answered, CoreTurn, served_by, core_turn}
 use Rattle.n2_front.proofs.KeptActs.{task_kept}
 use Rattle.n2_front.proofs.Others.{IsLeft, done_left}
-use Rattle.n2_runs.specs.Machine.{Machine, Made, unmoved, has_room, entry_of, entered, full_made, made_by, core_made, core_of, event_made, script_made, start, turn, run}
+use Rattle.n2_runs.specs.Machine.{Machine, unmoved, has_room, entry_of, entered, full_made, made_by, core_made, core_of, event_made, script_made, start, turn, run}
 use Rattle.n2_runs.specs.Agree.{fronts_of, pasts_of}
 use Rattle.n2_runs.specs.Knows.{KnowsSame, IsBookKept}
 use Rattle.n2_runs.proofs.Lists.{slice_get-set_other, slice_set-same, map-slice_set}

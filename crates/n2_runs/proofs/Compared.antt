@@ -1,22 +1,18 @@
 -- What replays is the journal of a finished run.
-use Rattle.std.proofs.Common.{◌≡◌, ◌≢◌, ℕ, zero, suc, ◌<◌, ◌≤◌, ◌+◌, ◌++◌, ◌&&◌, Bool, true, false, cond, eqb, List, [], ◌∷◌, length, map, replicate, slice_get, Option, Some, None, Result, Ok, Err, refl, ap, sym, ◌∙◌, arith, subst, append_assoc}
-use Rattle.std.specs.Prelude.{is_some}
-use Rattle.std.specs.Option.{option_and_then}
-use Rattle.std.specs.List.{list_all}
+use Rattle.std.proofs.Common.{◌≡◌, ℕ, zero, suc, ◌≤◌, ◌+◌, ◌++◌, Bool, true, false, cond, eqb, List, [], ◌∷◌, length, replicate, slice_get, Option, Some, None, Result, Ok, Err, refl, ap, sym, ◌∙◌, arith, subst, append_assoc}
 use Rattle.std.proofs.lemmas.Bool.Decides.{nat_tests}
 use Rattle.std.proofs.lemmas.Option.{slice_get_past, option_and_then_some}
 use Rattle.n2_parts.specs.declared.board.Board.{Board}
 use Rattle.n2_board.specs.AddressMap.{AddressMap}
 use Rattle.n2_journal.specs.declared.entry.Entry.{Entry}
-use Rattle.n2_journal.specs.Journals.{Content, tail_turns}
-use Rattle.n2_front.specs.Core.{Core, stop_of}
+use Rattle.n2_journal.specs.Journals.{tail_turns}
 use Rattle.n2_runs.specs.Machine.{Machine, turn, run, script_is_over, core_is_over, is_over}
 use Rattle.n2_runs.specs.Recorded.{actors_in}
 use Rattle.n2_runs.specs.Same.{same_entry}
 use Rattle.n2_runs.specs.Replay.{added, if_quiet, quiet_turn, quiet_turns, if_same, entry_turn, at_row, entry_row, entry_rows, if_stopped, tail_row, end_row, tail_rows}
 use Rattle.n2_runs.proofs.Sames.{entry_is}
 use Rattle.n2_runs.proofs.Ahead.{get_next, append_nil, same_some, entry_turns, run-append, run-none, one_more}
-use Rattle.n2_runs.proofs.Counted.{local_of, local_at, TurnIs, Over, Quiet, Enters, turn_is, count_turn, count_run, others_run, tails_others}
+use Rattle.n2_runs.proofs.Counted.{local_of, local_at, TurnIs, Over, Quiet, Enters, turn_is, count_run, others_run, tails_others}
 
 -- ---- tests
 quiet_if : {P : Type 0} (o : Bool) (y x : Machine) (e : Option Entry) → if_quiet o y e ≡ Some x → (o ≡ false → e ≡ None → x ≡ y → P) → P

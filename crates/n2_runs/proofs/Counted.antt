@@ -1,5 +1,5 @@
 -- What a turn counts: the entries, and for each actor its turns since its last transfer.
-use Rattle.std.proofs.Common.{◌≡◌, ◌≢◌, ℕ, zero, suc, ◌<◌, ◌≤◌, ◌+◌, ◌++◌, Bool, true, false, cond, eqb, not, List, [], ◌∷◌, length, replicate, slice_get, slice_set, Option, Some, None, refl, ap, sym, ◌∙◌, arith, subst, append_assoc, length-append, length-set}
+use Rattle.std.proofs.Common.{◌≡◌, ◌≢◌, ℕ, zero, suc, ◌<◌, ◌+◌, ◌++◌, Bool, true, false, cond, eqb, not, List, [], ◌∷◌, length, replicate, slice_get, Option, Some, None, refl, ap, sym, ◌∙◌, arith, subst, append_assoc, length-set}
 use Rattle.std.specs.Prelude.{is_some}
 use Rattle.std.proofs.lemmas.Bool.Decides.{nat_tests}
 use Rattle.std.proofs.lemmas.Option.{slice_get_past}
@@ -11,15 +11,15 @@ use Rattle.n2_bus.specs.Transfer.{request_for}
 use Rattle.n2_journal.specs.declared.entry.Entry.{Entry}
 use Rattle.n2_journal.specs.Journals.{tail_turns}
 use Rattle.n2_watch.specs.World.{transferred}
-use Rattle.n2_front.specs.Core.{Core, stop_of}
+use Rattle.n2_front.specs.Core.{Core}
 use Rattle.n2_front.specs.Turn.{core_turn}
-use Rattle.n2_runs.specs.Machine.{Machine, Made, has_room, entry_of, entered, event_made, turn, run, script_is_over, core_is_over, is_over}
+use Rattle.n2_runs.specs.Machine.{Machine, Made, entry_of, turn, run, script_is_over, core_is_over, is_over}
 use Rattle.n2_runs.specs.Recorded.{actors_in}
 use Rattle.n2_runs.proofs.Lists.{slice_get-set_same}
 use Rattle.n2_runs.proofs.Sets.{within}
 use Rattle.n2_runs.proofs.Known.{entered_local}
 use Rattle.n2_runs.proofs.Books.{other_core}
-use Rattle.n2_runs.proofs.Views.{put, IsCoreAt, quiet, quiet_count, turn_cases}
+use Rattle.n2_runs.proofs.Views.{IsCoreAt, quiet, quiet_count, turn_cases}
 use Rattle.n2_runs.proofs.Ahead.{run-append, run-none}
 
 abbrev pub local_of : Option Core → ℕ

@@ -1,8 +1,8 @@
 -- The journal of a finished run replays.
-use Rattle.std.proofs.Common.{◌≡◌, ◌≢◌, ℕ, zero, suc, ◌<◌, ◌≤◌, ◌+◌, ◌++◌, ◌&&◌, Bool, true, false, cond, eqb, nat_lt, not, List, [], ◌∷◌, length, map, replicate, slice_get, Option, Some, None, Result, Ok, Err, refl, ap, sym, ◌∙◌, arith, subst, append_assoc, length-append}
+use Rattle.std.proofs.Common.{◌≡◌, ◌≢◌, ℕ, zero, suc, ◌<◌, ◌≤◌, ◌+◌, ◌++◌, ◌&&◌, Bool, true, false, cond, eqb, nat_lt, not, List, [], ◌∷◌, length, replicate, slice_get, Option, Some, None, Result, Ok, Err, refl, ap, sym, ◌∙◌, arith, subst, append_assoc, length-append}
 use Rattle.std.specs.Prelude.{is_some}
 use Rattle.std.specs.Option.{option_and_then}
-use Rattle.std.specs.List.{list_all, flat_map}
+use Rattle.std.specs.List.{list_all}
 use Rattle.std.proofs.lemmas.Bool.Decides.{nat_tests}
 use Rattle.std.proofs.lemmas.Grind.{flat_map-append}
 use Rattle.std.proofs.lemmas.List.{length-map}
@@ -13,16 +13,15 @@ use Rattle.n2_board.specs.AddressMap.{AddressMap}
 use Rattle.n2_journal.specs.declared.entry.Entry.{Entry}
 use Rattle.n2_journal.specs.Journals.{Content, tail_turns}
 use Rattle.n2_front.specs.Core.{Core, stop_of}
-use Rattle.n2_runs.specs.Machine.{Machine, has_room, start, started_cores, turn, run, tails, script_is_over, core_is_over, is_over, is_finished}
+use Rattle.n2_runs.specs.Machine.{Machine, start, started_cores, turn, run, tails, script_is_over, core_is_over, is_over, is_finished}
 use Rattle.n2_runs.specs.Recorded.{journal_of, actors_in, actors_of, Records}
-use Rattle.n2_runs.specs.Same.{same_entry}
 use Rattle.n2_runs.specs.Replay.{added, if_quiet, quiet_turn, quiet_turns, if_same, entry_turn, at_row, entry_row, entry_rows, if_stopped, tail_row, end_row, tail_rows, after_entries, replayed}
 use Rattle.n2_runs.proofs.Sames.{entry_self}
 use Rattle.n2_runs.proofs.Begins.{as_many}
 use Rattle.n2_runs.proofs.Books.{other_core}
 use Rattle.n2_runs.proofs.Ahead.{get_next, append_nil, same_some, fresh_started, groups_of, entry_turns, locals_of, run-append, run-none}
 use Rattle.n2_runs.proofs.Counted.{local_of, local_at, TurnIs, Over, Quiet, Enters, turn_is, count_turn, count_run, others_run, tails_others, IsMore, run_more}
-use Rattle.n2_runs.proofs.Compared.{AreFresh, added_none, added_some, none_some, true_false, WentEntry, one_entry, fresh_after, WentEntries, all_entries, WentTails, all_tails}
+use Rattle.n2_runs.proofs.Compared.{AreFresh, added_none, added_some, true_false, one_entry, fresh_after, WentEntries, all_entries, WentTails, all_tails}
 
 first_same : (es : List Entry) (d e : Entry) (more rest : List Entry) → (es ++ d ∷ []) ++ more ≡ es ++ e ∷ rest → d ≡ e
 first_same es d e more rest h = same_some d e (sym (get_next es d more) ∙ ap (λ xs. slice_get xs (length es)) (sym (append_assoc es (d ∷ []) more) ∙ h) ∙ get_next es e rest)

@@ -1,5 +1,5 @@
 -- A turn that wants no transfer looks at nothing that cores share but what its core knows.
-use Rattle.std.proofs.Common.{◌≡◌, ℕ, ◌+◌, Bool, true, false, cond, List, Option, Some, None, refl, ap, sym, ◌∙◌, arith}
+use Rattle.std.proofs.Common.{◌≡◌, ℕ, ◌+◌, Bool, true, false, cond, List, Option, Some, None, refl, ap, sym, ◌∙◌}
 use Rattle.n2_word.specs.declared.Width.{Width}
 use Rattle.n2_word.specs.declared.Width.TheVariants.{Word}
 use Rattle.n2_exec.specs.declared.Outcome.{Outcome}
@@ -8,7 +8,6 @@ use Rattle.n2_exec.specs.Outcomes.{regs_of, asked_of}
 use Rattle.n2_exec.specs.Effect.{effect_of_word}
 use Rattle.n2_parts.specs.declared.board.Board.{Board}
 use Rattle.n2_parts.specs.declared.board.CoreRow.{CoreRow}
-use Rattle.n2_parts.specs.declared.stops.Act.{Act}
 use Rattle.n2_board.specs.AddressMap.{AddressMap}
 use Rattle.n2_dcache.specs.Cache.{found}
 use Rattle.n2_bus.specs.declared.request.Request.{Request}

@@ -1,5 +1,5 @@
 -- The tests of sameness tell what is equal.
-use Rattle.std.proofs.Common.{◌≡◌, ℕ, Bool, true, false, ◌&&◌, eqb, List, [], ◌∷◌, refl, ap, sym, ◌∙◌, arith}
+use Rattle.std.proofs.Common.{◌≡◌, ℕ, Bool, true, false, ◌&&◌, eqb, List, [], ◌∷◌, refl, ap, ◌∙◌, arith}
 use Rattle.std.proofs.lemmas.Bool.Decides.{nat_tests}
 use Rattle.n2_word.specs.declared.Width.{Width}
 use Rattle.n2_word.specs.declared.Width.TheVariants.{Byte, Half, Word}

@@ -1,9 +1,9 @@
 -- A turn that stops its core changes nothing else.
-use Rattle.std.proofs.Common.{◌≡◌, ◌≢◌, ℕ, ◌<◌, ◌++◌, Bool, true, false, cond, eqb, List, [], ◌∷◌, length, slice_get, slice_set, Option, Some, None, refl, ap, sym, ◌∙◌, arith}
+use Rattle.std.proofs.Common.{◌≡◌, ℕ, ◌<◌, Bool, true, false, cond, eqb, length, slice_get, slice_set, Option, Some, None, refl, ap, sym, ◌∙◌, arith}
 use Rattle.std.specs.Option.{option_or}
 use Rattle.std.proofs.lemmas.Bool.Decides.{nat_tests}
 use Rattle.n2_word.specs.declared.Width.TheVariants.{Word}
-use Rattle.n2_word.specs.Lines.{bypasses, line}
+use Rattle.n2_word.specs.Lines.{line}
 use Rattle.n2_exec.specs.declared.Outcome.{Outcome}
 use Rattle.n2_exec.specs.declared.Outcome.TheVariants as outcomes
 use Rattle.n2_exec.specs.Registers.{is_waiting}
@@ -20,14 +20,14 @@ use Rattle.n2_bus.specs.declared.request.Request.{Request}
 use Rattle.n2_bus.specs.Transfer.{line_reply, no_words}
 use Rattle.n2_watch.specs.declared.access.Access.TheVariants.{Fetch}
 use Rattle.n2_watch.specs.Discipline.{Breach, breach}
-use Rattle.n2_watch.specs.World.{World, Transferred}
+use Rattle.n2_watch.specs.World.{World}
 use Rattle.n2_front.specs.Front.{Front, with_regs}
 use Rattle.n2_front.specs.Tasks as tasks
 use Rattle.n2_front.specs.Tasks.{Task, task_of, task_breach}
 use Rattle.n2_front.specs.Retire.{who}
-use Rattle.n2_front.specs.Core.{Core, Ended, TurnKind, SampleTurn, EvictTurn, StepTurn, turn_kind, stop_of, ended_stop, log_full}
+use Rattle.n2_front.specs.Core.{Core, TurnKind, SampleTurn, EvictTurn, StepTurn, turn_kind, stop_of, ended_stop, log_full}
 use Rattle.n2_front.specs.Turn.{Intent, Samples, Evicts, Interrupts, Stops, FillsCode, Does, judged_task, executes, with_code, fetches, steps, intent_by, intent, wants_by, wants_line, Turned, with_line, is_in_way, emptied, loads, stores, CoreTurn, served_by, turn_with, core_turn}
-use Rattle.n2_runs.specs.Machine.{Machine, Made, has_room, entry_of, entered, full_made, made_by, script_made, core_made, core_of, turn}
+use Rattle.n2_runs.specs.Machine.{Machine, has_room, entry_of, entered, full_made, made_by, script_made, core_of, turn}
 use Rattle.n2_runs.specs.Knows.{only_stopped, with_stopped}
 use Rattle.n2_runs.proofs.Lists.{slice_get-set_same}
 use Rattle.n2_runs.proofs.Sets.{within}

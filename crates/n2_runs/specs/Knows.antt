@@ -1,5 +1,5 @@
 -- What turns keep and what they leave to others: what of the book a core knows, and what the machine keeps of its book by itself.
-use Rattle.std.specs.Prelude.{◌≡◌, ℕ, ◌+◌, List, length, slice_get, slice_set, Some, None}
+use Rattle.std.specs.Prelude.{◌≡◌, ℕ, ◌+◌, length, slice_get, slice_set, Some, None}
 use Rattle.n2_parts.specs.declared.board.Board.{Board}
 use Rattle.n2_parts.specs.declared.board.MailboxRow.{MailboxRow}
 use Rattle.n2_parts.specs.declared.stops.Stop.{Stop}

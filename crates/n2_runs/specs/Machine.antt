@@ -12,7 +12,6 @@ use Rattle.n2_parts.specs.declared.stops.Act.{Act}
 use Rattle.n2_parts.specs.declared.stops.Act.TheVariants as acts_of
 use Rattle.n2_board.specs.AddressMap.{AddressMap}
 use Rattle.n2_bus.specs.declared.request.Request.{Request}
-use Rattle.n2_bus.specs.declared.request.Reply.{Reply}
 use Rattle.n2_journal.specs.declared.entry.Entry.{Entry}
 use Rattle.n2_watch.specs.World.{World, Transferred, start_world, transferred}
 use Rattle.n2_bus.specs.Transfer.{request_for}

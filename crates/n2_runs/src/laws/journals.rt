@@ -1,13 +1,17 @@
 //! Laws on journals: what a run wrote replays.
 
-ghost use Rattle.std.specs.Prelude.{◌≡◌, ◌↔◌, ℕ, List, length, true, IsTrue, Ok};
+ghost use Rattle.std.specs.Prelude.{◌≡◌, ◌↔◌, ℕ, List, length, true, IsTrue, None, Ok};
+ghost use Rattle.std.specs.List.{AllByRecursion};
 ghost use Rattle.n2_elf.specs.declared.image.Image.{Image};
+ghost use Rattle.n2_elf.specs.Reading.{IsSized};
 ghost use Rattle.n2_parts.specs.declared.board.Board.{Board};
 ghost use Rattle.n2_parts.specs.Valid.{IsValid};
 ghost use Rattle.n2_board.specs.AddressMap.{AddressMap, address_map};
+ghost use Rattle.n2_board.specs.Placement.{open_fault};
 ghost use Rattle.n2_journal.specs.declared.entry.Entry.{Entry};
 ghost use Rattle.n2_journal.specs.Journals.{Content};
-ghost use Rattle.n2_runs.specs.Machine.{Machine, start, run, is_finished};
+ghost use Rattle.n2_runs.specs.Machine.{Machine, start, run, acts, is_finished};
+ghost use Rattle.n2_runs.specs.FlatRun.{flat_start, flat};
 ghost use Rattle.n2_runs.specs.Recorded.{journal_of, actors_of, Records};
 ghost use Rattle.n2_runs.specs.Same.{same_entry};
 ghost use Rattle.n2_runs.specs.Replay.{replayed};
@@ -18,6 +22,14 @@ ghost use Rattle.n2_runs.specs.Replay.{replayed};
 pub fn finished_runs()
     ensures state { (b : Board) (images : List Image) (map : AddressMap) (order : List ℕ) → IsValid b → map ≡ address_map b images → length images ≡ length b.core → run b map (start b images) (actors_of (journal_of (run b map (start b images) order))) ≡ run b map (start b images) order }
     ensures records { (b : Board) (images : List Image) (map : AddressMap) (order : List ℕ) → IsValid b → map ≡ address_map b images → length images ≡ length b.core → IsTrue (is_finished b (run b map (start b images) order)) → Records b map (start b images) (journal_of (run b map (start b images) order)) }
+{}
+
+/// A run and the run along its journal's order have the same flat part: the flat machine over the acts
+/// of either comes to the same registers, stops and past events of every core, and to the same book of
+/// devices, bytes of UARTs and holders.
+pub fn same_flat_part()
+    ensures fronts { (b : Board) (images : List Image) (map : AddressMap) (order : List ℕ) → IsValid b → map ≡ address_map b images → length images ≡ length b.core → open_fault b images ≡ None → AllByRecursion IsSized images → (flat b map (flat_start b images) (acts b map (start b images) (actors_of (journal_of (run b map (start b images) order))))).cores ≡ (flat b map (flat_start b images) (acts b map (start b images) order)).cores }
+    ensures book { (b : Board) (images : List Image) (map : AddressMap) (order : List ℕ) → IsValid b → map ≡ address_map b images → length images ≡ length b.core → open_fault b images ≡ None → AllByRecursion IsSized images → (flat b map (flat_start b images) (acts b map (start b images) (actors_of (journal_of (run b map (start b images) order))))).world.book ≡ (flat b map (flat_start b images) (acts b map (start b images) order)).world.book }
 {}
 
 /// The test of two entries tells whether they are equal.

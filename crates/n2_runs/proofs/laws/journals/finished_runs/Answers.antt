@@ -1,6 +1,6 @@
-use Rattle.std.proofs.Common.{ap, sym, ◌∙◌, subst}
+use Rattle.std.proofs.Common.{ap, sym, subst}
 use Rattle.std.specs.Prelude.{IsTrue}
-use Rattle.n2_runs.specs.Machine.{Machine, start, run, is_finished}
+use Rattle.n2_runs.specs.Machine.{Machine, is_finished}
 use Rattle.n2_runs.specs.Recorded.{journal_of}
 use Rattle.n2_runs.proofs.Ahead.{run_replays}
 use Rattle.n2_runs.proofs.laws.journals.finished_runs.Goals as goal

@@ -1,4 +1,4 @@
-use Rattle.std.proofs.Common.{◌≡◌, ap, sym, subst, ◌∙◌, Ok}
+use Rattle.std.proofs.Common.{ap, sym, subst, ◌∙◌, Ok}
 use Rattle.std.specs.Prelude.{IsTrue}
 use Rattle.n2_runs.specs.Machine.{Machine, start, run, is_finished}
 use Rattle.n2_runs.specs.Recorded.{journal_of}

@@ -1,5 +1,4 @@
 use Rattle.std.proofs.Common.{ap, sym, ◌∙◌}
-use Rattle.n2_journal.specs.declared.entry.Entry.{Entry}
 use Rattle.n2_runs.specs.Same.{same_entry}
 use Rattle.n2_runs.proofs.Sames.{entry_is, entry_self}
 use Rattle.n2_runs.proofs.laws.journals.same_entries.Goals as goal

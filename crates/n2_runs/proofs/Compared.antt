@@ -15,7 +15,7 @@ use Rattle.n2_runs.proofs.Ahead.{get_next, append_nil, same_some, entry_turns, r
 use Rattle.n2_runs.proofs.Counted.{local_of, local_at, TurnIs, Over, Quiet, Enters, turn_is, count_run, others_run, tails_others}
 
 -- ---- tests
-quiet_if : {P : Type 0} (o : Bool) (y x : Machine) (e : Option Entry) → if_quiet o y e ≡ Some x → (o ≡ false → e ≡ None → x ≡ y → P) → P
+pub quiet_if : {P : Type 0} (o : Bool) (y x : Machine) (e : Option Entry) → if_quiet o y e ≡ Some x → (o ≡ false → e ≡ None → x ≡ y → P) → P
 quiet_if true y x e h f = absurd (cc)
 quiet_if false y x None h f = f refl refl (same_some x y (sym h))
 quiet_if false y x (Some e) h f = absurd (cc)

@@ -37,7 +37,7 @@ pub data TurnIs (b : Board) (m : Machine) (actor : ℕ) (after : Machine) : Type
   Enters : (entry : Entry) → is_over b m actor ≡ false → after.entries ≡ m.entries ++ entry ∷ [] → entry.actor ≡ actor → entry.local ≡ local_at m actor → local_at after actor ≡ 0 → TurnIs b m actor after
 
 module _ (b : Board) (map : AddressMap) where
-  runs_on : (m : Machine) (k : ℕ) (row : CoreRow) (c : Core) → IsCoreAt b m k row c → is_over b m k ≡ false
+  pub runs_on : (m : Machine) (k : ℕ) (row : CoreRow) (c : Core) → IsCoreAt b m k row c → is_over b m k ≡ false
   runs_on m k row c h =
       ap (λ (x : Bool). cond x (script_is_over b m m.script) (core_is_over (slice_get m.cores k))) apart
       ∙ ap core_is_over h.there ∙ ap (λ (o : Option Stop). is_some o) h.runs

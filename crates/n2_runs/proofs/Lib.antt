@@ -19,3 +19,4 @@ pub mod Sames
 pub mod Counted
 pub mod Compared
 pub mod Followed
+pub mod Bounded

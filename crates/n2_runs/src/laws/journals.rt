@@ -1,6 +1,6 @@
 //! Laws on journals: what a run wrote replays.
 
-ghost use Rattle.std.specs.Prelude.{◌≡◌, ◌↔◌, ℕ, List, length, true, IsTrue, None, Ok};
+ghost use Rattle.std.specs.Prelude.{◌≡◌, ◌↔◌, ℕ, ◌≤◌, List, length, true, IsTrue, Some, None, Ok};
 ghost use Rattle.std.specs.List.{AllByRecursion};
 ghost use Rattle.n2_elf.specs.declared.image.Image.{Image};
 ghost use Rattle.n2_elf.specs.Reading.{IsSized};
@@ -14,7 +14,7 @@ ghost use Rattle.n2_runs.specs.Machine.{Machine, start, run, acts, is_finished};
 ghost use Rattle.n2_runs.specs.FlatRun.{flat_start, flat};
 ghost use Rattle.n2_runs.specs.Recorded.{journal_of, actors_of, Records};
 ghost use Rattle.n2_runs.specs.Same.{same_entry};
-ghost use Rattle.n2_runs.specs.Replay.{replayed};
+ghost use Rattle.n2_runs.specs.Replay.{quiet_turns, replayed};
 
 /// What a run wrote replays. The run along the order that its journal tells comes to the same state of
 /// the machine: what cores share, the cores, the entries and the script that is left. So the journal of
@@ -43,4 +43,11 @@ pub fn same_entries()
 pub fn replays()
     ensures records { (b : Board) (images : List Image) (map : AddressMap) (j : Content) (m : Machine) → length images ≡ length b.core → replayed b map (start b images) j ≡ Ok m ↔ (Records b map (start b images) j × (m ≡ run b map (start b images) (actors_of j))) }
     ensures finished { (b : Board) (images : List Image) (map : AddressMap) (order : List ℕ) → IsValid b → map ≡ address_map b images → length images ≡ length b.core → IsTrue (is_finished b (run b map (start b images) order)) → replayed b map (start b images) (journal_of (run b map (start b images) order)) ≡ Ok (run b map (start b images) order) }
+{}
+
+/// No row of a replay makes more turns than the board allows, whatever it claims: of the turns without a
+/// transfer that an entry or a tail counts, at most the board's number agree, and the first that does
+/// not is the last one that is looked at.
+pub fn replay_is_bounded()
+    ensures { (b : Board) (images : List Image) (map : AddressMap) (order : List ℕ) (actor n : ℕ) (m : Machine) → IsValid b → length images ≡ length b.core → quiet_turns b map actor n (run b map (start b images) order) ≡ Some m → n ≤ b.turns }
 {}

@@ -1,7 +1,8 @@
 -- The text of a word at an address: a statement of the assembler's, without shorthands (Nios II
 -- Processor Reference Guide, "Instruction Set Reference", "Assembler Syntax").
 use Rattle.std.specs.Prelude.{ℕ, ◌+◌, ◌-◌, ◌*◌, ◌/◌, ◌%◌, ◌^◌, ◌<◌, List, [], ◌∷◌, ◌++◌, codes, decimal, Option, Some, None, nat_lt, if◌then◌else◌}
-use Rattle.n2_word.specs.Words.{signed_half}
+use Rattle.n2_word.specs.Words.{number_of, signed_half}
+use Rattle.n2_elf.specs.declared.image.Segment.{Segment}
 use Rattle.n2_text.specs.Fields.{word_text}
 use Rattle.n2_insn.specs.declared.ImmOp.{ImmOp}
 use Rattle.n2_insn.specs.declared.Insn.{Insn}
@@ -105,11 +106,15 @@ operands_of here Sync = Zero
 unfoldable pub insn_text : ℕ → Insn → List ℕ
 insn_text here insn = text_of (mnemonic_of insn) ++ operands_text (operands_of here insn)
 
+-- a word outside of the table
+abbrev pub outside_text : ℕ → List ℕ
+outside_text word = codes ".word 0x" ++ word_text word
+
 abbrev pub text_or_word : ℕ → ℕ → Option Insn → List ℕ
 text_or_word word here (Some insn) = insn_text here insn
-text_or_word word here None = codes ".word 0x" ++ word_text word
+text_or_word word here None = outside_text word
 
--- the text of a word here; a word outside of the table is a number
+-- the text of a word here
 unfoldable pub line_of : ℕ → ℕ → List ℕ
 line_of word here = text_or_word word here (table_insn word)
 
@@ -125,3 +130,14 @@ place_of here _ = None
 -- an address, a word and its text
 abbrev pub row_text : ℕ → ℕ → List ℕ
 row_text at word = word_text at ++ codes " " ++ word_text word ++ codes " " ++ line_of word at ++ codes "\n"
+
+-- a row for each word of some bytes, four to a word; what is missing of the last word is zeros
+abbrev pub rows_text : ℕ → List ℕ → List ℕ
+rows_text at (a ∷ b ∷ c ∷ d ∷ bytes) = row_text at (number_of (a ∷ b ∷ c ∷ d ∷ [])) ++ rows_text ((at + 4) % 2 ^ 32) bytes
+rows_text at [] = []
+rows_text at bytes = row_text at (number_of bytes)
+
+-- a row for each word of each segment's bytes
+abbrev pub listing : List Segment → List ℕ
+listing [] = []
+listing (s ∷ segments) = rows_text s.at s.bytes ++ listing segments

@@ -5,5 +5,8 @@ pub mod laws;
 mod lines;
 mod operands;
 
-pub use lines::{line_text, put_line};
+pub use lines::{line_text, put_line, put_listing};
 pub use operands::{Operand, Operands};
+
+#[cfg(test)]
+mod tests;

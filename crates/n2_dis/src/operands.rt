@@ -7,7 +7,7 @@ ghost use Rattle.n2_dis.specs.Texts as spec;
 
 use n2_insn::{ImmOp, Insn};
 use n2_text::{put_number, put_text, put_word};
-use n2_word::{NoMemory, signed_half};
+use n2_word::{NoMemory, sign16};
 
 /// An operand: a register or a control register by its number, an immediate that is sign-extended,
 /// a number, a place, or an immediate with the register that it is added to.
@@ -34,7 +34,7 @@ pub enum Operands {
 fn branch_place(here: u32, imm: u16) -> u32
     ensures { result ≡ spec.branch_place here imm }
 {
-    here.wrapping_add(4).wrapping_add(signed_half(imm))
+    here.wrapping_add(4).wrapping_add(sign16(imm))
 }
 
 /// Where a jump here goes.
@@ -50,12 +50,8 @@ fn immediate(op: ImmOp, imm: u16) -> Operand
     ensures { result ≡ spec.immediate (imm_field op) imm }
 {
     match op {
-        ImmOp::Addi
-        | ImmOp::Muli
-        | ImmOp::Cmpgei
-        | ImmOp::Cmplti
-        | ImmOp::Cmpnei
-        | ImmOp::Cmpeqi => Operand::Signed(imm),
+        ImmOp::Addi | ImmOp::Muli | ImmOp::Cmpgei | ImmOp::Cmplti | ImmOp::Cmpnei | ImmOp::Cmpeqi =>
+            Operand::Signed(imm),
         ImmOp::Andi
         | ImmOp::Ori
         | ImmOp::Xori
@@ -75,7 +71,11 @@ pub fn operands_of(here: u32, insn: &Insn) -> Operands
     match *insn {
         Insn::Jump { target, .. } => Operands::One(Operand::Place(jump_place(here, target))),
         Insn::Imm { op, a, b, imm } => {
-            Operands::Three(Operand::Register(b), Operand::Register(a), immediate(op, imm))
+            Operands::Three(
+                Operand::Register(b),
+                Operand::Register(a),
+                immediate(op, imm),
+            )
         }
         Insn::Br { imm } => Operands::One(Operand::Place(branch_place(here, imm))),
         Insn::Branch { a, b, imm, .. } => Operands::Three(

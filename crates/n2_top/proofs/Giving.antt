@@ -1,19 +1,13 @@
--- What a call gives, carried to the call above it.
-use Rattle.std.proofs.Common.{◌≡◌, ap, sym, subst, ◌∙◌, Option, Result, Err}
+-- What is answered where a command is refused.
+use Rattle.std.proofs.Common.{◌≡◌, ap, sym, subst, ◌∙◌, Option, Err}
 use Rattle.n2_outside.specs.Files.{Files}
-use Rattle.n2_top.specs.declared.refusal.Refusal.{Refusal}
-use Rattle.n2_top.specs.declared.refusal.Failure.{Failure}
-use Rattle.n2_top.specs.declared.refusal.Failure.TheVariants.{Refused, NoAnswer}
+use Rattle.n2_inputs.specs.declared.refusal.Refusal.{Refusal}
+use Rattle.n2_inputs.specs.declared.refusal.Failure.{Failure}
+use Rattle.n2_inputs.specs.declared.refusal.Failure.TheVariants.{Refused}
 use Rattle.n2_top.specs.declared.answers.Answer.{Answer}
 use Rattle.n2_top.specs.Commands.{Command}
-use Rattle.n2_top.specs.Asked.{◌>>=◌}
 use Rattle.n2_top.specs.Answers.{OverFiles, reply_to, settled}
-use Rattle.n2_top.specs.Calls.{Gives}
-
--- a step that fails ends all
-pub failed_step : {A B C D : Type 0} (seen : A → B) (shown : C → D) (step : Result B Refusal) (next : B → Result D Refusal) (failure : Failure) → Gives seen step (Err failure) → Gives shown (step >>= next) (Err failure)
-failed_step seen shown step next (Refused refusal) h = ap (λ r. r >>= next) h
-failed_step seen shown step next (NoAnswer cause) h = h
+use Rattle.n2_inputs.specs.Calls.{Gives}
 
 -- the answer that is made of a refusal
 pub settled_refusal : (told : Option Files) (command same : Command) (failure : Failure) (refusal : Refusal) (a : Answer) → command ≡ same → failure ≡ Refused refusal → OverFiles told command (λ files. Gives (λ (x : Answer). x) (reply_to command files) (Err failure)) → a ≡ settled (Err refusal) → OverFiles told same (λ files. a ≡ settled (reply_to same files))

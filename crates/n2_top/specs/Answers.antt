@@ -3,11 +3,12 @@ use Rattle.std.specs.Prelude.{◌≡◌, ℕ, List, [], Option, Some, Bool, fals
 use Rattle.n2_outside.specs.Files.{Files, file_at}
 use Rattle.n2_flat.specs.Machine.{plain}
 use Rattle.n2_top.specs.declared.answers.Answer.{Answer}
-use Rattle.n2_top.specs.declared.refusal.Refusal.{Refusal}
-use Rattle.n2_top.specs.declared.refusal.Refusal.TheVariants.{Usage, UnbuiltCommand}
+use Rattle.n2_inputs.specs.declared.refusal.Refusal.{Refusal}
+use Rattle.n2_inputs.specs.declared.refusal.Refusal.TheVariants.{Usage, UnbuiltCommand}
 use Rattle.n2_top.specs.Commands.{Command, Faulty, Unbuilt, Plain, command_of, reads_files}
-use Rattle.n2_top.specs.Refusals.{status_of, row_of}
-use Rattle.n2_top.specs.Asked.{Asked, PlainRun, ◌>>=◌}
+use Rattle.n2_inputs.specs.Refusals.{status_of, row_of}
+use Rattle.n2_inputs.specs.Files.{◌>>=◌}
+use Rattle.n2_top.specs.Asked.{Asked, PlainRun}
 use Rattle.n2_top.specs.Plain.{asked_plain, plain_answer}
 
 -- what a command asks of some files

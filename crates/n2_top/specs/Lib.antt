@@ -1,5 +1,4 @@
 pub mod Commands
-pub mod Refusals
 pub mod Asked
 pub mod Plain
 pub mod Answers

@@ -8,10 +8,12 @@ use Rattle.n2_flat.specs.PlainBoard.{plain_board, plain_uart}
 use Rattle.n2_report.specs.Stops.{status_of}
 use Rattle.n2_report.specs.Flat.{flat_text}
 use Rattle.n2_top.specs.declared.answers.Answer.{Answer}
-use Rattle.n2_top.specs.declared.refusal.Role.TheVariants as roles
-use Rattle.n2_top.specs.declared.refusal.Refusal.{Refusal}
-use Rattle.n2_top.specs.declared.refusal.Refusal.TheVariants.{UnbuiltWord}
-use Rattle.n2_top.specs.Asked.{Asked, PlainRun, ◌>>=◌, file_of, image_of, image_in, fitting}
+use Rattle.n2_inputs.specs.declared.refusal.Role.TheVariants as roles
+use Rattle.n2_inputs.specs.declared.refusal.Refusal.{Refusal}
+use Rattle.n2_inputs.specs.declared.refusal.Refusal.TheVariants.{UnbuiltWord}
+use Rattle.n2_inputs.specs.Files.{◌>>=◌, file_of}
+use Rattle.n2_inputs.specs.Boards.{image_of, image_in, fitting}
+use Rattle.n2_top.specs.Asked.{Asked, PlainRun}
 
 -- an image file that fits the plain board, as that of core 0
 unfoldable pub asked_plain : Option (List ℕ) → ℕ → Result Asked Refusal

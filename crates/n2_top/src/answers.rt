@@ -4,12 +4,11 @@ ghost use Rattle.std.specs.Prelude.{◌≡◌, ◌≤◌, ◌<◌, [], map, stri
 ghost use Rattle.n2_outside.specs.Faults.{Rose};
 ghost use Rattle.n2_top.specs.Commands.{command_by, command_of, reads_files, writes_journal};
 ghost use Rattle.n2_top.specs.Answers.{ForAnswer, OverFiles, reply_to, settled, is_final};
-ghost use Rattle.n2_top.specs.Calls.{Gives, LeavesFolder};
+ghost use Rattle.n2_inputs.specs.Calls.{Gives, LeavesFolder};
 
 use crate::command::{Command, command_in};
 use crate::plain::answer_plain;
-use crate::refusal::{Failure, NoAnswer, Refusal};
-use crate::rows::put_row;
+use n2_inputs::{Failure, NoAnswer, Refusal, put_row};
 use n2_outside::Folder;
 use n2_text::Items;
 use n2_word::NoMemory;

@@ -3,10 +3,7 @@
 
 mod answers;
 mod command;
-mod files;
 mod plain;
-mod refusal;
-mod rows;
 
 ghost use Rattle.std.specs.Prelude.{◌≡◌, ◌≢◌, ◌<◌, ◌≤◌, ◌⊎◌, [], Ok, Err, map, string_bytes, IsTrue, false};
 ghost use Rattle.n2_outside.specs.Faults.{Rose};
@@ -15,8 +12,8 @@ ghost use Rattle.n2_top.specs.Commands.{command_of, reads_files, writes_journal}
 ghost use Rattle.n2_top.specs.Answers.{ForAnswer, read_fault, is_final};
 
 use answers::{Answer, answer_words};
+use n2_inputs::NoAnswer;
 use n2_outside::{Folder, Sink, put_all};
-use refusal::NoAnswer;
 use std::alloc::Global;
 
 /// Writes an answer: the journal's text, and then the report. The status is 7 where a put failed.

@@ -10,14 +10,14 @@ ghost use Rattle.n2_top.specs.Commands.{Plain};
 ghost use Rattle.n2_top.specs.Asked.{PlainRun};
 ghost use Rattle.n2_top.specs.Plain.{asked_plain, plain_answer};
 ghost use Rattle.n2_top.specs.Answers.{reply_to};
-ghost use Rattle.n2_top.specs.Calls.{Gives, LeavesFolder, ReadFails};
+ghost use Rattle.n2_top.specs.Calls.{unbuilt_of};
+ghost use Rattle.n2_inputs.specs.Calls.{Gives, LeavesFolder, ReadFails};
 
 use crate::answers::Answer;
-use crate::files::{fetch_file, image_in};
-use crate::refusal::{Failure, NoAnswer, Refusal, Role};
 use n2_board::Layout;
 use n2_elf::Image;
 use n2_flat::{PlainFault, plain_board, plain_run};
+use n2_inputs::{Failure, NoAnswer, Refusal, Role, fetch_file, image_in};
 use n2_outside::Folder;
 use n2_report::{CoreEnd, UartEnd, flat_text, status};
 use n2_text::Items;
@@ -38,16 +38,13 @@ struct Fitting {
     layout: Layout,
 }
 
-impl From<PlainFault> for Failure {
-    ghost use Rattle.n2_top.specs.Calls.{unbuilt_of};
-
-    ghost from_gives = { λ fault e. e ≡ unbuilt_of fault };
-
-    fn from(fault: PlainFault) -> Failure {
-        match fault {
-            PlainFault::Unbuilt { pc, word } => Failure::Refused(Refusal::UnbuiltWord { pc, word }),
-            PlainFault::NoMemory => Failure::NoAnswer(NoAnswer::NoMemory),
-        }
+/// Why a run has no end.
+fn failure_of(fault: PlainFault) -> Failure
+    ensures { result ≡ unbuilt_of fault }
+{
+    match fault {
+        PlainFault::Unbuilt { pc, word } => Failure::Refused(Refusal::UnbuiltWord { pc, word }),
+        PlainFault::NoMemory => Failure::NoAnswer(NoAnswer::NoMemory),
     }
 }
 
@@ -77,7 +74,10 @@ fn run(alloc: Global, asked: &Fitting, steps: u32) -> Result<Answer, Failure>
     ensures journal { IfOk result (λ a. a.journal ≡ []) }
     ensures status { IfOk result (λ a. a.status < 3) }
 {
-    let end = plain_run(alloc, &asked.image, &asked.layout, steps)?;
+    let end = match plain_run(alloc, &asked.image, &asked.layout, steps) {
+        Ok(end) => end,
+        Err(fault) => return Err(failure_of(fault)),
+    };
     let core = CoreEnd {
         regs: end.regs,
         stop: end.stop,

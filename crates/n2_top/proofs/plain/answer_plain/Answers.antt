@@ -1,7 +1,7 @@
 use Rattle.std.proofs.lemmas.Result.{err_from_is_err_and}
 use Rattle.n2_top.specs.declared.plain.Fitting.{Fitting}
 use Rattle.n2_top.specs.Asked.{PlainRun}
-use Rattle.n2_top.proofs.Giving.{failed_step}
+use Rattle.n2_inputs.proofs.Steps.{failed_step}
 use Rattle.n2_top.proofs.plain.answer_plain.Goals as goal
 
 pub returns-in_err-asked-clause-answer : goal.returns-in_err-asked-clause-answer

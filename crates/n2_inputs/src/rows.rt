@@ -2,11 +2,12 @@
 
 ghost use Rattle.std.specs.Prelude.{◌≡◌, ◌++◌, OnOk};
 ghost use Rattle.n2_elf.specs.Names.{fault_text};
-ghost use Rattle.n2_top.specs.Refusals as spec;
+ghost use Rattle.n2_inputs.specs.Refusals as spec;
 
 use crate::refusal::{Refusal, Role};
 use n2_board::OpenFault;
 use n2_elf::{ElfFault, put_fault};
+use n2_journal::JournalFault;
 use n2_text::{put_number, put_text, put_word};
 use n2_word::NoMemory;
 
@@ -97,6 +98,26 @@ fn put_words(out: &mut Vec<u8>, name: &[u8], a: u32, b: u32) -> Result<(), NoMem
     put_word(out, b)
 }
 
+/// Appends a row of a file, as `order row 3`.
+fn put_file_row(out: &mut Vec<u8>, role: Role, name: &[u8], row: u64) -> Result<(), NoMemory>
+    ensures { OnOk result (out.new.items ≡ out.old.items ++ spec.row_text role name.now row) }
+{
+    put_role(out, role)?;
+    put_text(out, name)?;
+    put_number(out, row)
+}
+
+/// Appends why a text is no journal, as `journal row 7` or `journal cut`.
+fn put_journal_fault(out: &mut Vec<u8>, fault: JournalFault) -> Result<(), NoMemory>
+    ensures { OnOk result (out.new.items ≡ out.old.items ++ spec.journal_text fault) }
+{
+    match fault {
+        JournalFault::NotJournal(row) => put_file_row(out, Role::Journal, b" row ", row),
+        JournalFault::Cut => put_file(out, Role::Journal, b"cut"),
+        JournalFault::NoMemory => put_file(out, Role::Journal, b"nomemory"),
+    }
+}
+
 #[tactic(auto, unfolding(crate::specs::Refusals::text_of))]
 fn put_refusal(out: &mut Vec<u8>, refusal: &Refusal) -> Result<(), NoMemory>
     ensures { OnOk result (out.new.items ≡ out.old.items ++ spec.text_of refusal.now) }
@@ -107,8 +128,12 @@ fn put_refusal(out: &mut Vec<u8>, refusal: &Refusal) -> Result<(), NoMemory>
         Refusal::UnbuiltWord { pc, word } => put_words(out, b"unbuilt word ", *pc, *word),
         Refusal::Absent(role) => put_file(out, *role, b"absent"),
         Refusal::TooLong(role) => put_file(out, *role, b"too long"),
+        Refusal::BoardText(fault) => n2_boardtext::put_fault(out, fault),
         Refusal::Image(core, fault) => put_image_fault(out, *core, fault),
         Refusal::Misfit(fault) => put_misfit(out, *fault),
+        Refusal::OrderRow(row) => put_file_row(out, Role::Order, b" row ", *row),
+        Refusal::JournalText(fault) => put_journal_fault(out, *fault),
+        Refusal::JournalWrong(row) => put_file_row(out, Role::Journal, b" wrong ", *row),
     }
 }
 

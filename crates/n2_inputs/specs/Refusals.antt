@@ -2,12 +2,15 @@
 use Rattle.std.specs.Prelude.{ℕ, List, [], ◌∷◌, ◌++◌, codes, decimal}
 use Rattle.n2_text.specs.Fields.{word_text}
 use Rattle.n2_elf.specs.Names.{fault_text}
+use Rattle.n2_boardtext.specs.Rows.{fault_text as board_text}
 use Rattle.n2_board.specs.declared.placement.OpenFault.{OpenFault}
 use Rattle.n2_board.specs.declared.placement.OpenFault.TheVariants.{Outside, EntryOutside, Overlap, NoMemory}
-use Rattle.n2_top.specs.declared.refusal.Role.{Role}
-use Rattle.n2_top.specs.declared.refusal.Role.TheVariants as roles
-use Rattle.n2_top.specs.declared.refusal.Refusal.{Refusal}
-use Rattle.n2_top.specs.declared.refusal.Refusal.TheVariants.{Usage, UnbuiltCommand, UnbuiltWord, Absent, TooLong, Image, Misfit}
+use Rattle.n2_journal.specs.declared.journal.JournalFault.{JournalFault}
+use Rattle.n2_journal.specs.declared.journal.JournalFault.TheVariants as journals
+use Rattle.n2_inputs.specs.declared.refusal.Role.{Role}
+use Rattle.n2_inputs.specs.declared.refusal.Role.TheVariants as roles
+use Rattle.n2_inputs.specs.declared.refusal.Refusal.{Refusal}
+use Rattle.n2_inputs.specs.declared.refusal.Refusal.TheVariants.{Usage, UnbuiltCommand, UnbuiltWord, Absent, TooLong, BoardText, Image, Misfit, OrderRow, JournalText, JournalWrong}
 
 -- a file has at most so many bytes
 abbrev pub limit_of : Role → ℕ
@@ -39,8 +42,12 @@ status_of UnbuiltCommand = 12
 status_of (UnbuiltWord pc word) = 12
 status_of (Absent role) = role_status role
 status_of (TooLong role) = role_status role
+status_of (BoardText fault) = 4
 status_of (Image core fault) = 5
 status_of (Misfit fault) = 5
+status_of (OrderRow row) = 11
+status_of (JournalText fault) = 9
+status_of (JournalWrong row) = 9
 
 unfoldable pub usage : List ℕ
 usage = codes "usage: n2_tool plain FILE STEPS | step BOARD ORDER | replay BOARD JOURNAL | flat BOARD JOURNAL | asm FILE | asmhal FILE | dis FILE | bench N"
@@ -67,14 +74,28 @@ misfit_text (EntryOutside core) = entry_text core
 misfit_text (Overlap a b) = pair_text (codes "images overlap ") a b
 misfit_text NoMemory = codes "images nomemory"
 
+-- a row of a file, counted from 1
+abbrev pub row_text : Role → List ℕ → ℕ → List ℕ
+row_text role name row = role_text role ++ name ++ decimal row
+
+-- why a text is no journal
+abbrev pub journal_text : JournalFault → List ℕ
+journal_text (journals.NotJournal row) = row_text roles.Journal (codes " row ") row
+journal_text journals.Cut = file_text roles.Journal (codes "cut")
+journal_text journals.NoMemory = file_text roles.Journal (codes "nomemory")
+
 unfoldable pub text_of : Refusal → List ℕ
 text_of Usage = usage
 text_of UnbuiltCommand = codes "unbuilt command"
 text_of (UnbuiltWord pc word) = words_text (codes "unbuilt word ") pc word
 text_of (Absent role) = file_text role (codes "absent")
 text_of (TooLong role) = file_text role (codes "too long")
+text_of (BoardText fault) = board_text fault
 text_of (Image core fault) = file_text (roles.Image core) (fault_text fault)
 text_of (Misfit fault) = misfit_text fault
+text_of (OrderRow row) = row_text roles.Order (codes " row ") row
+text_of (JournalText fault) = journal_text fault
+text_of (JournalWrong row) = row_text roles.Journal (codes " wrong ") row
 
 -- a row ends with a line feed
 abbrev pub row_of : Refusal → List ℕ

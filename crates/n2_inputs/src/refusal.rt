@@ -1,10 +1,13 @@
 //! Why a command gives no answer: what is refused, and what the outside did.
 
 ghost use Rattle.std.specs.Prelude.{◌≡◌};
-ghost use Rattle.n2_top.specs.Refusals as spec;
+ghost use Rattle.n2_inputs.specs.Refusals as spec;
 
 use n2_board::OpenFault;
+use n2_boardtext::TextFault;
 use n2_elf::ElfFault;
+use n2_journal::JournalFault;
+use n2_order::ListFault;
 use n2_word::NoMemory;
 
 /// What a file is read for. An image has the number of its core.
@@ -58,10 +61,18 @@ pub enum Refusal {
     Absent(Role),
     /// The file is longer than its limit.
     TooLong(Role),
+    /// The text of the board has a fault.
+    BoardText(TextFault),
     /// The image of a core is no sound ELF file, though it begins as one.
     Image(u32, ElfFault),
     /// The images do not fit the board.
     Misfit(OpenFault),
+    /// This row of the order's file, counted from 1, is no actor's.
+    OrderRow(u64),
+    /// The text of the journal is none.
+    JournalText(JournalFault),
+    /// The journal is not that of a finished run: its first row, counted from 1, that differs.
+    JournalWrong(u64),
 }
 
 impl Refusal {
@@ -72,7 +83,10 @@ impl Refusal {
         match self {
             Refusal::Usage => 3,
             Refusal::Absent(role) | Refusal::TooLong(role) => role.status(),
+            Refusal::BoardText(_) => 4,
             Refusal::Image(_, _) | Refusal::Misfit(_) => 5,
+            Refusal::JournalText(_) | Refusal::JournalWrong(_) => 9,
+            Refusal::OrderRow(_) => 11,
             Refusal::UnbuiltCommand | Refusal::UnbuiltWord { .. } => 12,
         }
     }
@@ -95,7 +109,7 @@ pub enum Failure {
 }
 
 impl From<NoMemory> for NoAnswer {
-    ghost use Rattle.n2_top.specs.declared.refusal.NoAnswer.TheVariants.{NoMemory as WantOfMemory};
+    ghost use Rattle.n2_inputs.specs.declared.refusal.NoAnswer.TheVariants.{NoMemory as WantOfMemory};
 
     ghost from_gives = { λ _ e. e ≡ WantOfMemory };
 
@@ -105,8 +119,8 @@ impl From<NoMemory> for NoAnswer {
 }
 
 impl From<NoMemory> for Failure {
-    ghost use Rattle.n2_top.specs.declared.refusal.NoAnswer.TheVariants.{NoMemory as WantOfMemory};
-    ghost use Rattle.n2_top.specs.declared.refusal.Failure.TheVariants.{NoAnswer as Unanswered};
+    ghost use Rattle.n2_inputs.specs.declared.refusal.NoAnswer.TheVariants.{NoMemory as WantOfMemory};
+    ghost use Rattle.n2_inputs.specs.declared.refusal.Failure.TheVariants.{NoAnswer as Unanswered};
 
     ghost from_gives = { λ _ e. e ≡ Unanswered WantOfMemory };
 
@@ -116,7 +130,7 @@ impl From<NoMemory> for Failure {
 }
 
 impl From<OpenFault> for Failure {
-    ghost use Rattle.n2_top.specs.Calls.{misfit_of};
+    ghost use Rattle.n2_inputs.specs.Calls.{misfit_of};
 
     ghost from_gives = { λ fault e. e ≡ misfit_of fault };
 
@@ -124,6 +138,45 @@ impl From<OpenFault> for Failure {
         match fault {
             OpenFault::NoMemory => Failure::NoAnswer(NoAnswer::NoMemory),
             _ => Failure::Refused(Refusal::Misfit(fault)),
+        }
+    }
+}
+
+impl From<TextFault> for Failure {
+    ghost use Rattle.n2_inputs.specs.Calls.{text_failure};
+
+    ghost from_gives = { λ fault e. e ≡ text_failure fault };
+
+    fn from(fault: TextFault) -> Failure {
+        match fault {
+            TextFault::NoMemory => Failure::NoAnswer(NoAnswer::NoMemory),
+            _ => Failure::Refused(Refusal::BoardText(fault)),
+        }
+    }
+}
+
+impl From<ListFault> for Failure {
+    ghost use Rattle.n2_inputs.specs.Calls.{list_failure};
+
+    ghost from_gives = { λ fault e. e ≡ list_failure fault };
+
+    fn from(fault: ListFault) -> Failure {
+        match fault {
+            ListFault::Row(row) => Failure::Refused(Refusal::OrderRow(row)),
+            ListFault::NoMemory => Failure::NoAnswer(NoAnswer::NoMemory),
+        }
+    }
+}
+
+impl From<JournalFault> for Failure {
+    ghost use Rattle.n2_inputs.specs.Calls.{journal_failure};
+
+    ghost from_gives = { λ fault e. e ≡ journal_failure fault };
+
+    fn from(fault: JournalFault) -> Failure {
+        match fault {
+            JournalFault::NoMemory => Failure::NoAnswer(NoAnswer::NoMemory),
+            _ => Failure::Refused(Refusal::JournalText(fault)),
         }
     }
 }

@@ -1,0 +1,7 @@
+pub mod Refusals
+pub mod Calls
+pub mod Files
+pub mod Boards
+pub mod Orders
+pub mod Journals
+pub mod Asked

@@ -1,15 +1,17 @@
 #!/usr/bin/env python3
-"""Measures the bus: transfers per second of each kind that `n2_rates` makes.
+"""Measures the bus and the watch: transfers, judgements and notes per second of each kind of `n2_rates`.
 
 Run by hand from anywhere, with nothing else at work on the machine:
 
     (cd crates/n2_rates && rt run -- tick 1)   # builds the program where it is missing
     bench/rates.py
 
-Each row is the best of five runs of N transfers, less the best of five runs of none, which start the
-program and open the bus. `back` and `write` store in a memory; `readdevice` reads the control register of a
-UART, `writedevice` takes a snapshot of a timer; `tick` gives one tick to a timer that stands; the UART
-has two bytes of input and the host takes none, so `receive` moves two bytes and `drain` none.
+Each row is the best of five runs of N, less the best of five runs of none, which start the program and open
+the bus or the watch. `back` and `write` store in a memory; `readdevice` reads the control register of a UART,
+`writedevice` takes a snapshot of a timer; `tick` gives one tick to a timer that stands; the UART has two bytes
+of input and the host takes none, so `receive` moves two bytes and `drain` none. `judge1000` judges stores to
+1,000 lines that were touched, one after another, and `note1000` notes loads and stores of them; the other
+numbers of lines are for the same.
 """
 import os
 import subprocess
@@ -17,8 +19,9 @@ import time
 
 ROOT = os.path.dirname(os.path.dirname(os.path.abspath(__file__)))
 PROGRAM = os.path.join(ROOT, "crates", "n2_rates", "out", "n2_rates")
-KINDS = "fill back read write readdevice writedevice sample tick receive drain".split()
-TRANSFERS = 10_000_000
+KINDS = """fill back read write readdevice writedevice sample tick receive drain
+judge1 judge1000 judge100000 note1 note1000 note100000""".split()
+COUNT = 10_000_000
 
 
 def best(kind, n):
@@ -32,10 +35,10 @@ def best(kind, n):
 
 
 def main():
-    print(f"{'kind':12} {'seconds':>9} {'of none':>9} {'transfers/s':>12}")
+    print(f"{'kind':12} {'seconds':>9} {'of none':>9} {'per second':>12}")
     for kind in KINDS:
-        seconds, none = best(kind, TRANSFERS), best(kind, 0)
-        print(f"{kind:12} {seconds:9.4f} {none:9.4f} {TRANSFERS / (seconds - none):12.0f}")
+        seconds, none = best(kind, COUNT), best(kind, 0)
+        print(f"{kind:12} {seconds:9.4f} {none:9.4f} {COUNT / (seconds - none):12.0f}")
 
 
 main()

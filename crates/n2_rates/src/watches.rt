@@ -56,10 +56,10 @@ fn note_lines(watch: &mut Watch, layout: &Layout, lines: u32, n: u32)
     ensures slots { (guard : Guard) → IsGuardOf watch.new.board guard → slot_of guard < length watch.new.table.got }
 {
     let mut at = 0;
-    'notes: for _ in 0..n {
+    'notes: for i in 0..n {
         let done = Done::Touched {
             line: FIRST + at,
-            store: at % 2 == 0,
+            store: i % 2 == 0,
         };
         watch.note(layout, &done);
         at = next_of(at, lines);
@@ -100,13 +100,22 @@ fn unflushed(watch: &Watch, layout: &Layout) -> u32 {
 
 /// The watch of core 0 of a board that has it, after so many notes of so many lines, and then N
 /// judgements or N notes of them.
-fn watched(alloc: Global, board: &Board, layout: &Layout, lines: u32, judges: bool, n: u32) -> Option<u32>
+fn watched(
+    alloc: Global,
+    board: &Board,
+    layout: &Layout,
+    lines: u32,
+    judges: bool,
+    n: u32,
+) -> Option<u32>
     requires core { 0 < length board.now.core }
     requires map { IsMapOf board.now layout.now }
     requires most { lines ≤ 100000 }
     requires some { 0 < lines }
 {
-    let mut watch = Watch::open(alloc, 0, board, layout).ok()?;
+    let Ok(mut watch) = Watch::open(alloc, 0, board, layout) else {
+        return None;
+    };
     if judges {
         note_lines(&mut watch, layout, lines, lines);
         Some(judge_lines(&watch, layout, lines, n))
@@ -122,7 +131,9 @@ pub fn refused(alloc: Global, lines: u32, judges: bool, n: u32) -> Option<u32> {
     if lines == 0 || lines > MOST {
         return None;
     }
-    let board = n2_boardtext::read(alloc, board_text()).ok()?;
+    let Ok(board) = n2_boardtext::read(alloc, board_text()) else {
+        return None;
+    };
     let images = [Image::raw(alloc, &[1, 2, 3, 4], 0).ok()?];
     if board.core.len() != 1 {
         return None;

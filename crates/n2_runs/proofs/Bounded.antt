@@ -1,8 +1,7 @@
 -- A core makes at most the board's number of turns, so a replay does too.
-use Rattle.std.proofs.Common.{◌≡◌, ℕ, zero, suc, ◌<◌, ◌≤◌, ◌+◌, ◌++◌, ◌&&◌, Bool, true, false, cond, nat_le, nat_lt, List, [], ◌∷◌, length, slice_get, Option, Some, None, refl, ap, sym, ◌∙◌, arith, subst}
+use Rattle.std.proofs.Common.{◌≡◌, ℕ, zero, suc, ◌<◌, ◌≤◌, ◌+◌, ◌++◌, ◌&&◌, Bool, true, false, cond, nat_le, nat_lt, List, [], ◌∷◌, length, slice_get, Option, Some, None, Ok, refl, ap, sym, ◌∙◌, arith, subst}
 use Rattle.std.specs.Option.{option_or}
 use Rattle.std.proofs.lemmas.Bool.Decides.{nat_tests}
-use Rattle.std.proofs.lemmas.Option.{option_and_then_some}
 use Rattle.n2_elf.specs.declared.image.Image.{Image}
 use Rattle.n2_parts.specs.declared.board.Board.{Board}
 use Rattle.n2_parts.specs.declared.board.CoreRow.{CoreRow}
@@ -28,7 +27,7 @@ use Rattle.n2_runs.proofs.Begins.{as_many}
 use Rattle.n2_runs.proofs.Views.{quiet_by, quiet, turn_cases}
 use Rattle.n2_runs.proofs.Ahead.{get_next, same_some}
 use Rattle.n2_runs.proofs.Counted.{count_turn, count_run}
-use Rattle.n2_runs.proofs.Compared.{none_some, true_false, quiet_if}
+use Rattle.n2_runs.proofs.Compared.{none_some, true_false, then_ok, quiet_if}
 
 -- a valid board has turns
 some_turns : (b : Board) → IsValid b → 0 < b.turns
@@ -131,12 +130,12 @@ module _ (b : Board) (map : AddressMap) where
       at None e = omega arith
       at (Some c) e = (h k c e).0
 
-  quiet_bounded : (k n : ℕ) (m x : Machine) → length m.cores ≡ length b.core → AreBelow b m → quiet_turns b map k n m ≡ Some x → n + turns_at m k ≤ b.turns
+  quiet_bounded : (k n : ℕ) (m x : Machine) → length m.cores ≡ length b.core → AreBelow b m → quiet_turns b map k n m ≡ Ok x → n + turns_at m k ≤ b.turns
   unfolding quiet_turns quiet_turn
   quiet_bounded k zero m x count h e = omega (arith, at_most k m h)
   quiet_bounded k (suc n) m x count h e =
-      option_and_then_some (quiet_turns b map k n) (quiet_turn b map m k) x e (λ y g i.
-      quiet_if (is_over b m k) (turn b map m k).machine y (added m (turn b map m k).machine) g (λ o a s.
+      then_ok (quiet_turns b map k n) (quiet_turn b map m k) x e (λ y g i.
+      quiet_if m (is_over b m k) (turn b map m k).machine y (added m (turn b map m k).machine) g (λ o a s.
       let z = next_is m count k h o a in
       let rest : n + turns_at (turn b map m k).machine k ≤ b.turns =
       quiet_bounded k n (turn b map m k).machine x (count_turn b map m count k) (turn_below m count k h) (ap (quiet_turns b map k n) (sym s) ∙ i) in
@@ -148,7 +147,7 @@ started_below b lt (row ∷ rows) [] k c e = absurd (cc)
 started_below b lt (row ∷ rows) (image ∷ images) zero c e = subst (IsBelow b.turns) (same_some (started_core row image) c e) (omega arith, λ s. lt)
 started_below b lt (row ∷ rows) (image ∷ images) (suc k) c e = started_below b lt rows images k c e
 
-pub bounded : (b : Board) (images : List Image) (map : AddressMap) (order : List ℕ) (actor n : ℕ) (m : Machine) → IsValid b → length images ≡ length b.core → quiet_turns b map actor n (run b map (start b images) order) ≡ Some m → n ≤ b.turns
+pub bounded : (b : Board) (images : List Image) (map : AddressMap) (order : List ℕ) (actor n : ℕ) (m : Machine) → IsValid b → length images ≡ length b.core → quiet_turns b map actor n (run b map (start b images) order) ≡ Ok m → n ≤ b.turns
 bounded b images map order actor n m valid long e =
     let s = start b images in
     let x = run b map s order in

@@ -1,32 +1,43 @@
 -- What replays is the journal of a finished run.
 use Rattle.std.proofs.Common.{◌≡◌, ℕ, zero, suc, ◌≤◌, ◌+◌, ◌++◌, Bool, true, false, cond, eqb, List, [], ◌∷◌, length, replicate, slice_get, Option, Some, None, Result, Ok, Err, refl, ap, sym, ◌∙◌, arith, subst, append_assoc}
 use Rattle.std.proofs.lemmas.Bool.Decides.{nat_tests}
-use Rattle.std.proofs.lemmas.Option.{slice_get_past, option_and_then_some}
+use Rattle.std.proofs.lemmas.Option.{slice_get_past}
 use Rattle.n2_parts.specs.declared.board.Board.{Board}
 use Rattle.n2_board.specs.AddressMap.{AddressMap}
 use Rattle.n2_journal.specs.declared.entry.Entry.{Entry}
 use Rattle.n2_journal.specs.Journals.{tail_turns}
 use Rattle.n2_runs.specs.Machine.{Machine, turn, run, script_is_over, core_is_over, is_over}
 use Rattle.n2_runs.specs.Recorded.{actors_in}
-use Rattle.n2_runs.specs.Same.{same_entry}
-use Rattle.n2_runs.specs.Replay.{added, if_quiet, quiet_turn, quiet_turns, if_same, entry_turn, at_row, entry_row, entry_rows, if_stopped, tail_row, end_row, tail_rows}
+use Rattle.n2_runs.specs.Same.{same_request, same_entry}
+use Rattle.n2_runs.specs.Replay.{and_then, added, if_quiet, quiet_turn, quiet_turns, if_same, entry_turn, Differs, at_row, entry_row, entry_rows, if_stopped, tail_row, end_row, if_last, if_core, tail_rows}
 use Rattle.n2_runs.proofs.Sames.{entry_is}
 use Rattle.n2_runs.proofs.Ahead.{get_next, append_nil, same_some, entry_turns, run-append, run-none, one_more}
 use Rattle.n2_runs.proofs.Counted.{local_of, local_at, TurnIs, Over, Quiet, Enters, turn_is, count_run, others_run, tails_others}
 
 -- ---- tests
-pub quiet_if : {P : Type 0} (o : Bool) (y x : Machine) (e : Option Entry) → if_quiet o y e ≡ Some x → (o ≡ false → e ≡ None → x ≡ y → P) → P
-quiet_if true y x e h f = absurd (cc)
-quiet_if false y x None h f = f refl refl (same_some x y (sym h))
-quiet_if false y x (Some e) h f = absurd (cc)
+same_ok : {E : Type 0} (x y : Machine) → ◌≡◌ {A = Result Machine E} (Ok x) (Ok y) → x ≡ y
+same_ok x y e = grind arith
 
-cond_some : {P : Type 0} {X : Type 0} (t : Bool) (x y : X) → cond t (Some x) None ≡ Some y → (t ≡ true → y ≡ x → P) → P
-cond_some true x y h f = f refl (same_some y x (sym h))
-cond_some false x y h f = absurd (cc)
+pub then_ok : {P : Type 0} (next : Machine → Result Machine Machine) (o : Result Machine Machine) (x : Machine) → and_then next o ≡ Ok x → ((y : Machine) → o ≡ Ok y → next y ≡ Ok x → P) → P
+then_ok next (Ok y) x h f = f y refl h
+then_ok next (Err y) x h f = absurd (cc)
 
-same_if : {P : Type 0} (entry : Entry) (y x : Machine) (e : Option Entry) → if_same entry y e ≡ Some x → (e ≡ Some entry → x ≡ y → P) → P
-same_if entry y x None h f = absurd (cc)
-same_if entry y x (Some other) h f = cond_some (same_entry entry other) y x h (λ t e. f (ap (λ (d : Entry). Some d) (sym (entry_is entry other t))) e)
+pub quiet_if : {P : Type 0} (m : Machine) (o : Bool) (y x : Machine) (e : Option Entry) → if_quiet m o y e ≡ Ok x → (o ≡ false → e ≡ None → x ≡ y → P) → P
+quiet_if m true y x e h f = absurd (cc)
+quiet_if m false y x None h f = f refl refl (same_ok x y (sym h))
+quiet_if m false y x (Some e) h f = absurd (cc)
+
+cond_ok : {P : Type 0} (t : Bool) (x y z : Machine) → ◌≡◌ {A = Result Machine Machine} (cond t (Ok x) (Err z)) (Ok y) → (t ≡ true → y ≡ x → P) → P
+cond_ok true x y z h f = f refl (same_ok y x (sym h))
+cond_ok false x y z h f = absurd (cc)
+
+same_by : {P : Type 0} (m : Machine) (entry other : Entry) (y x : Machine) (t : Bool) → ◌≡◌ {A = Result Machine Machine} (cond t (cond (same_entry entry other) (Ok y) (Err y)) (Err m)) (Ok x) → (same_entry entry other ≡ true → x ≡ y → P) → P
+same_by m entry other y x true h f = cond_ok (same_entry entry other) y x y h f
+same_by m entry other y x false h f = absurd (cc)
+
+same_if : {P : Type 0} (m : Machine) (entry : Entry) (y x : Machine) (e : Option Entry) → if_same m entry y e ≡ Ok x → (e ≡ Some entry → x ≡ y → P) → P
+same_if m entry y x None h f = absurd (cc)
+same_if m entry y x (Some other) h f = same_by m entry other y x (same_request entry.request other.request) h (λ t e. f (ap (λ (d : Entry). Some d) (sym (entry_is entry other t))) e)
 
 -- the added entry
 pub added_none : (m x : Machine) → x.entries ≡ m.entries → added m x ≡ None
@@ -58,11 +69,11 @@ module _ (b : Board) (map' : AddressMap) where
   quiet_by m k y e (Quiet o s t l) f a = record { is = e; entries = s; script = t; local = l }
   quiet_by m k y e (Enters entry o s t l z) f a = none_some (added m y) entry a (added_some m y entry s)
 
-  one_quiet : (m : Machine) → length m.cores ≡ length b.core → (k : ℕ) (x : Machine) → quiet_turn b map' m k ≡ Some x → WentQuiet m k 1 x
+  one_quiet : (m : Machine) → length m.cores ≡ length b.core → (k : ℕ) (x : Machine) → quiet_turn b map' m k ≡ Ok x → WentQuiet m k 1 x
   unfolding quiet_turn
   one_quiet m count k x h =
       let y = (turn b map' m k).machine in
-      quiet_if (is_over b m k) y x (added m y) h (λ o a e. subst (WentQuiet m k 1) (sym e) (quiet_by m k y refl (turn_is b map' m count k) o a))
+      quiet_if m (is_over b m k) y x (added m y) h (λ o a e. subst (WentQuiet m k 1) (sym e) (quiet_by m k y refl (turn_is b map' m count k) o a))
 
   went_more : (m y x : Machine) (k n : ℕ) → WentQuiet m k 1 y → WentQuiet y k n x → WentQuiet m k (suc n) x
   unfolding run
@@ -77,11 +88,11 @@ module _ (b : Board) (map' : AddressMap) where
   unfolding run
   went_none m k = record { is = refl; entries = refl; script = refl; local = omega arith }
 
-  all_quiet : (k n : ℕ) (m : Machine) → length m.cores ≡ length b.core → (x : Machine) → quiet_turns b map' k n m ≡ Some x → WentQuiet m k n x
+  all_quiet : (k n : ℕ) (m : Machine) → length m.cores ≡ length b.core → (x : Machine) → quiet_turns b map' k n m ≡ Ok x → WentQuiet m k n x
   unfolding quiet_turns
-  all_quiet k zero m count x h = subst (WentQuiet m k 0) (same_some m x h) (went_none m k)
+  all_quiet k zero m count x h = subst (WentQuiet m k 0) (same_ok m x h) (went_none m k)
   all_quiet k (suc n) m count x h =
-      option_and_then_some (quiet_turns b map' k n) (quiet_turn b map' m k) x h (λ y g i.
+      then_ok (quiet_turns b map' k n) (quiet_turn b map' m k) x h (λ y g i.
       let q = one_quiet m count k y g in
       went_more m y x k n q (all_quiet k n y (count_went m y k q count) x i))
     where
@@ -105,13 +116,13 @@ module _ (b : Board) (map' : AddressMap) where
       let i : e ≡ entry = same_some e entry (sym (added_some m y e s) ∙ a) in
       record { entries = s ∙ ap (λ (d : Entry). m.entries ++ d ∷ []) i; local = z }
 
-  pub one_entry : (entry : Entry) (m : Machine) → length m.cores ≡ length b.core → (x : Machine) → entry_row b map' entry m ≡ Some x → WentEntry m entry x
+  pub one_entry : (entry : Entry) (m : Machine) → length m.cores ≡ length b.core → (x : Machine) → entry_row b map' entry m ≡ Ok x → WentEntry m entry x
   unfolding entry_turn
   one_entry entry m count x h =
-      option_and_then_some (entry_turn b map' entry) (quiet_turns b map' entry.actor entry.local m) x h (λ y g i.
+      then_ok (entry_turn b map' entry) (quiet_turns b map' entry.actor entry.local m) x h (λ y g i.
       let q = all_quiet entry.actor entry.local m count y g in
       let z = (turn b map' y entry.actor).machine in
-      same_if entry z x (added y z) i (λ a e. went y q (enters_by y entry z (turn_is b map' y (count_went y q) entry.actor) a) e))
+      same_if y entry z x (added y z) i (λ a e. went y q (enters_by y entry z (turn_is b map' y (count_went y q) entry.actor) a) e))
     where
       count_went : (y : Machine) → WentQuiet m entry.actor entry.local y → length y.cores ≡ length b.core
       count_went y q = ap (λ (z : Machine). length z.cores) q.is ∙ count_run b map' (replicate entry.local entry.actor) m count
@@ -137,20 +148,17 @@ module _ (b : Board) (map' : AddressMap) where
     pub entries : x.entries ≡ m.entries ++ es
     pub fresh : AreFresh 0 x
 
-  row_some : {P : Type 0} (row : ℕ) (rest : Machine → Result Machine ℕ) (o : Option Machine) (x : Machine) → at_row row rest o ≡ Ok x → ((y : Machine) → o ≡ Some y → rest y ≡ Ok x → P) → P
-  row_some row rest None x h f = absurd (cc)
-  row_some row rest (Some y) x h f = f y refl h
+  row_ok : {P : Type 0} (row : ℕ) (rest : Machine → Result Machine Differs) (o : Result Machine Machine) (x : Machine) → at_row row rest o ≡ Ok x → ((y : Machine) → o ≡ Ok y → rest y ≡ Ok x → P) → P
+  row_ok row rest (Ok y) x h f = f y refl h
+  row_ok row rest (Err y) x h f = absurd (cc)
 
   pub all_entries : (es : List Entry) (row : ℕ) (m : Machine) → length m.cores ≡ length b.core → AreFresh 0 m → (x : Machine) → entry_rows b map' row es m ≡ Ok x → WentEntries m es x
   unfolding entry_rows
   all_entries [] row m count fresh x h =
       let e : m ≡ x = same_ok m x h in
       subst (WentEntries m []) e (record { is = sym (run-none b map' m); entries = sym (append_nil m.entries); fresh = fresh })
-    where
-      same_ok : (m x : Machine) → ◌≡◌ {A = Result Machine ℕ} (Ok m) (Ok x) → m ≡ x
-      same_ok m x e = grind arith
   all_entries (entry ∷ es) row m count fresh x h =
-      row_some row (entry_rows b map' (row + 1) es) (entry_row b map' entry m) x h (λ y g i.
+      row_ok row (entry_rows b map' (row + 1) es) (entry_row b map' entry m) x h (λ y g i.
       let q = one_entry entry m count y g in
       let c : length y.cores ≡ length b.core = ap (λ (z : Machine). length z.cores) q.is ∙ count_run b map' (replicate (entry.local + 1) entry.actor) m count in
       went y q (all_entries es (row + 1) y c (fresh_after m entry y q fresh) x i))
@@ -170,37 +178,34 @@ module _ (b : Board) (map' : AddressMap) where
     pub long : core + length ts ≡ length b.core
     pub each : (j t : ℕ) → slice_get ts j ≡ Some t → (local_at x (core + j) ≡ t) × (core_is_over (slice_get x.cores (core + j)) ≡ true)
 
-  cond_ok : {P : Type 0} (t : Bool) (row : ℕ) (m x : Machine) → cond t (Ok m) (Err row) ≡ Ok x → (t ≡ true → m ≡ x → P) → P
-  cond_ok true row m x h f = f refl (grind arith)
-  cond_ok false row m x h f = absurd (cc)
+  core_ends : {P : Type 0} (t : Bool) (m x : Machine) (r : Result Machine Machine) → cond t r (Err m) ≡ Ok x → (t ≡ true → r ≡ Ok x → P) → P
+  core_ends true m x r h f = f refl h
+  core_ends false m x r h f = absurd (cc)
 
-  core_ends : {P : Type 0} (t : Bool) (row : ℕ) (r : Result Machine ℕ) (x : Machine) → cond t r (Err row) ≡ Ok x → (t ≡ true → r ≡ Ok x → P) → P
-  core_ends true row r x h f = f refl h
-  core_ends false row r x h f = absurd (cc)
-
-  core_goes : {P : Type 0} (t : Bool) (row : ℕ) (r : Result Machine ℕ) (x : Machine) → cond t (Err row) r ≡ Ok x → (t ≡ false → r ≡ Ok x → P) → P
-  core_goes true row r x h f = absurd (cc)
-  core_goes false row r x h f = f refl h
+  core_goes : {P : Type 0} (t : Bool) (m x : Machine) (r : Result Machine Machine) → cond t (Err m) r ≡ Ok x → (t ≡ false → r ≡ Ok x → P) → P
+  core_goes true m x r h f = absurd (cc)
+  core_goes false m x r h f = f refl h
 
   pub all_tails : (ts : List ℕ) (row core : ℕ) (m : Machine) → length m.cores ≡ length b.core → AreFresh core m → (x : Machine) → tail_rows b map' row core ts m ≡ Ok x → WentTails m core ts x
   unfolding tail_rows
   all_tails [] row core m count fresh x h =
-      core_ends (eqb core (length b.core)) row (end_row b row m) x h (λ t i.
-      cond_ok (script_is_over b m m.script) row m x i (λ o e. subst (WentTails m core []) e (record {
+      row_ok row (λ (end : Machine). Ok end) (if_last b core m (end_row b m)) x h (λ y g i.
+      core_ends (eqb core (length b.core)) m y (end_row b m) g (λ t g.
+      cond_ok (script_is_over b m m.script) m y m g (λ o e. subst (WentTails m core []) (sym e ∙ same_ok y x i) (record {
         is = sym (run-none b map' m);
         entries = refl;
         over = o;
         long = last t;
         each = λ j t i. absurd (cc);
-      })))
+      }))))
     where
       last : eqb core (length b.core) ≡ true → core + 0 ≡ length b.core
       last t = let e : core ≡ length b.core = grind (arith, nat_tests) in omega arith
   all_tails (t ∷ ts) row core m count fresh x h =
-      core_goes (eqb core (length b.core)) row (at_row row (tail_rows b map' (row + 1) (core + 1) ts) (tail_row b map' core t m)) x h (λ n i.
-      row_some row (tail_rows b map' (row + 1) (core + 1) ts) (tail_row b map' core t m) x i (λ y g i.
-      option_and_then_some (if_stopped core) (quiet_turns b map' core t m) y g (λ z f g.
-      cond_some (core_is_over (slice_get z.cores core)) z y g (λ o e.
+      row_ok row (tail_rows b map' (row + 1) (core + 1) ts) (if_core b core m (tail_row b map' core t m)) x h (λ y g i.
+      core_goes (eqb core (length b.core)) m y (tail_row b map' core t m) g (λ n g.
+      then_ok (if_stopped core) (quiet_turns b map' core t m) y g (λ z f g.
+      cond_ok (core_is_over (slice_get z.cores core)) z y z g (λ o e.
       let q : WentQuiet m core t y = subst (WentQuiet m core t) (sym e) (all_quiet core t m count z f) in
       let c : length y.cores ≡ length b.core = ap (λ (z : Machine). length z.cores) q.is ∙ count_run b map' (replicate t core) m count in
       went y q (ap (λ (z : Machine). core_is_over (slice_get z.cores core)) e ∙ o)

@@ -1,7 +1,6 @@
 -- The journal of a finished run replays.
 use Rattle.std.proofs.Common.{◌≡◌, ◌≢◌, ℕ, zero, suc, ◌<◌, ◌≤◌, ◌+◌, ◌++◌, ◌&&◌, Bool, true, false, cond, eqb, nat_lt, not, List, [], ◌∷◌, length, replicate, slice_get, Option, Some, None, Result, Ok, Err, refl, ap, sym, ◌∙◌, arith, subst, append_assoc, length-append}
 use Rattle.std.specs.Prelude.{is_some}
-use Rattle.std.specs.Option.{option_and_then}
 use Rattle.std.specs.List.{list_all}
 use Rattle.std.proofs.lemmas.Bool.Decides.{nat_tests}
 use Rattle.std.proofs.lemmas.Grind.{flat_map-append}
@@ -15,8 +14,9 @@ use Rattle.n2_journal.specs.Journals.{Content, tail_turns}
 use Rattle.n2_front.specs.Core.{Core, stop_of}
 use Rattle.n2_runs.specs.Machine.{Machine, start, started_cores, turn, run, tails, script_is_over, core_is_over, is_over, is_finished}
 use Rattle.n2_runs.specs.Recorded.{journal_of, actors_in, actors_of, Records}
-use Rattle.n2_runs.specs.Replay.{added, if_quiet, quiet_turn, quiet_turns, if_same, entry_turn, at_row, entry_row, entry_rows, if_stopped, tail_row, end_row, tail_rows, after_entries, replayed}
-use Rattle.n2_runs.proofs.Sames.{entry_self}
+use Rattle.n2_runs.specs.Same.{same_entry}
+use Rattle.n2_runs.specs.Replay.{and_then, added, if_quiet, quiet_turn, quiet_turns, if_same, entry_turn, Differs, at_row, entry_row, entry_rows, if_stopped, tail_row, end_row, tail_rows, after_entries, replayed}
+use Rattle.n2_runs.proofs.Sames.{request_self, entry_self}
 use Rattle.n2_runs.proofs.Begins.{as_many}
 use Rattle.n2_runs.proofs.Books.{other_core}
 use Rattle.n2_runs.proofs.Ahead.{get_next, append_nil, same_some, fresh_started, groups_of, entry_turns, locals_of, run-append, run-none}
@@ -90,15 +90,16 @@ module _ (b : Board) (map' : AddressMap) where
       (λ f. comes order y (count_turn b map' m count k) entry rest f)
 
   -- ---- an entry's turns
-  quiet_is : (m y : Machine) (k : ℕ) → is_over b m k ≡ false → y.entries ≡ m.entries → if_quiet (is_over b m k) y (added m y) ≡ Some y
-  quiet_is m y k o s = ap (λ (x : Bool). if_quiet x y (added m y)) o ∙ ap (if_quiet false y) (added_none m y s)
+  quiet_is : (m y : Machine) (k : ℕ) → is_over b m k ≡ false → y.entries ≡ m.entries → if_quiet m (is_over b m k) y (added m y) ≡ Ok y
+  quiet_is m y k o s = ap (λ (x : Bool). if_quiet m x y (added m y)) o ∙ ap (if_quiet m false y) (added_none m y s)
 
-  entry_made : (m y : Machine) (entry d : Entry) → d ≡ entry → y.entries ≡ m.entries ++ d ∷ [] → if_same entry y (added m y) ≡ Some y
+  entry_made : (m y : Machine) (entry d : Entry) → d ≡ entry → y.entries ≡ m.entries ++ d ∷ [] → if_same m entry y (added m y) ≡ Ok y
   entry_made m y entry d i s =
-      ap (if_same entry y) (added_some m y d s ∙ ap (λ (x : Entry). Some x) i)
-      ∙ ap (λ (x : Bool). cond x (Some y) None) (entry_self entry)
+      ap (if_same m entry y) (added_some m y d s ∙ ap (λ (x : Entry). Some x) i)
+      ∙ ap (λ (x : Bool). cond x (cond (same_entry entry entry) (Ok y) (Err y)) (Err m)) (request_self entry.request)
+      ∙ ap (λ (x : Bool). cond x (Ok y) (Err y)) (entry_self entry)
 
-  last_by : (m y : Machine) (entry : Entry) (rest after : List Entry) → TurnIs b m entry.actor y → Comes m entry → local_at m entry.actor ≡ entry.local → after ≡ m.entries ++ entry ∷ rest → IsMore b map' y.entries after → (after ≡ y.entries ++ entry ∷ rest → Comes y entry) → if_same entry y (added m y) ≡ Some y
+  last_by : (m y : Machine) (entry : Entry) (rest after : List Entry) → TurnIs b m entry.actor y → Comes m entry → local_at m entry.actor ≡ entry.local → after ≡ m.entries ++ entry ∷ rest → IsMore b map' y.entries after → (after ≡ y.entries ++ entry ∷ rest → Comes y entry) → if_same m entry y (added m y) ≡ Ok y
   last_by m y entry rest after (Over o s) c l e more next = true_false (is_over b m entry.actor) o c.runs
   last_by m y entry rest after (Quiet o s t i) c l e more next =
       let z = next (e ∙ ap (λ es. es ++ entry ∷ rest) (sym s)) in
@@ -113,7 +114,7 @@ module _ (b : Board) (map' : AddressMap) where
       let same : d ≡ entry = first_same m.entries d entry more.more rest (ap (λ es. es ++ more.more) (sym s) ∙ sym more.then ∙ e) in
       absurd (omega (arith, ap (λ (x : Entry). x.local) same, i))
 
-  group : (n : ℕ) (m : Machine) → length m.cores ≡ length b.core → (entry : Entry) (rest : List Entry) (order : List ℕ) → local_at m entry.actor + n ≡ entry.local → (run b map' m (replicate (suc n) entry.actor ++ order)).entries ≡ m.entries ++ entry ∷ rest → option_and_then (entry_turn b map' entry) (quiet_turns b map' entry.actor n m) ≡ Some (run b map' m (replicate (suc n) entry.actor))
+  group : (n : ℕ) (m : Machine) → length m.cores ≡ length b.core → (entry : Entry) (rest : List Entry) (order : List ℕ) → local_at m entry.actor + n ≡ entry.local → (run b map' m (replicate (suc n) entry.actor ++ order)).entries ≡ m.entries ++ entry ∷ rest → and_then (entry_turn b map' entry) (quiet_turns b map' entry.actor n m) ≡ Ok (run b map' m (replicate (suc n) entry.actor))
   unfolding run quiet_turns entry_turn quiet_turn
   group zero m count entry rest order l e =
       let y = (turn b map' m entry.actor).machine in
@@ -125,19 +126,19 @@ module _ (b : Board) (map' : AddressMap) where
       let next : List ℕ = replicate (suc n) entry.actor ++ order in
       let come = comes (entry.actor ∷ next) m count entry rest e in
       let z = early_by m y entry rest (run b map' y next).entries (turn_is b map' m count entry.actor) come (omega (arith, l)) e (run_more b map' next y c) in
-      ap (λ (o : Option Machine). option_and_then (entry_turn b map' entry) (option_and_then (quiet_turns b map' entry.actor n) o)) (quiet_is m y entry.actor come.runs z.0)
+      ap (λ (o : Result Machine Machine). and_then (entry_turn b map' entry) (and_then (quiet_turns b map' entry.actor n) o)) (quiet_is m y entry.actor come.runs z.0)
       ∙ group n y c entry rest order (omega (arith, z.1, l)) (e ∙ ap (λ es. es ++ entry ∷ rest) (sym z.0))
 
-  follow_entries : (es : List Entry) (row : ℕ) (m : Machine) (order : List ℕ) → length m.cores ≡ length b.core → AreFresh 0 m → (run b map' m (entry_turns es ++ order)).entries ≡ m.entries ++ es → entry_rows b map' row es m ≡ Ok (run b map' m (entry_turns es))
+  pub follow_entries : (es : List Entry) (row : ℕ) (m : Machine) (order : List ℕ) → length m.cores ≡ length b.core → AreFresh 0 m → (run b map' m (entry_turns es ++ order)).entries ≡ m.entries ++ es → entry_rows b map' row es m ≡ Ok (run b map' m (entry_turns es))
   unfolding entry_rows
   follow_entries [] row m order count fresh e = ap (λ (x : Machine). Ok x) (sym (run-none b map' m))
   follow_entries (entry ∷ es) row m order count fresh e =
       let n : entry.local + 1 ≡ suc entry.local = omega arith in
       let x : Machine = run b map' m (replicate (entry.local + 1) entry.actor) in
-      let go : entry_row b map' entry m ≡ Some x =
+      let go : entry_row b map' entry m ≡ Ok x =
       group entry.local m count entry es (entry_turns es ++ order) (ap (λ i. i + entry.local) (fresh entry.actor (omega arith)) ∙ omega arith)
       (ap (λ i. (run b map' m (replicate i entry.actor ++ (entry_turns es ++ order))).entries) (sym n) ∙ ap (λ xs. (run b map' m xs).entries) (sym (append_assoc (replicate (entry.local + 1) entry.actor) (entry_turns es) order)) ∙ e)
-      ∙ ap (λ i. Some (run b map' m (replicate i entry.actor))) (sym n) in
+      ∙ ap (λ i. Ok (run b map' m (replicate i entry.actor))) (sym n) in
       let c : length x.cores ≡ length b.core = count_run b map' (replicate (entry.local + 1) entry.actor) m count in
       let w = one_entry b map' entry m count x go in
       ap (at_row row (entry_rows b map' (row + 1) es)) go
@@ -161,7 +162,7 @@ module _ (b : Board) (map' : AddressMap) where
       at y (Quiet o s t l) more next e = let le = next (e ∙ sym s) in omega (arith, l)
       at y (Enters d o s a l z) more next e = no_longer m.entries d more.more (ap (λ es. es ++ more.more) (sym s) ∙ sym more.then ∙ e)
 
-  made_quiet : (k n : ℕ) (m : Machine) → length m.cores ≡ length b.core → (run b map' m (replicate n k)).entries ≡ m.entries → local_at (run b map' m (replicate n k)) k ≡ local_at m k + n → quiet_turns b map' k n m ≡ Some (run b map' m (replicate n k))
+  made_quiet : (k n : ℕ) (m : Machine) → length m.cores ≡ length b.core → (run b map' m (replicate n k)).entries ≡ m.entries → local_at (run b map' m (replicate n k)) k ≡ local_at m k + n → quiet_turns b map' k n m ≡ Ok (run b map' m (replicate n k))
   unfolding run quiet_turns quiet_turn
   made_quiet k zero m count e l = refl
   made_quiet k (suc n) m count e l = at (turn b map' m k).machine (turn_is b map' m count k) (run_more b map' (replicate n k) (turn b map' m k).machine c) (at_most k n (turn b map' m k).machine c) (made_quiet k n (turn b map' m k).machine c) e l
@@ -169,12 +170,12 @@ module _ (b : Board) (map' : AddressMap) where
       c : length (turn b map' m k).machine.cores ≡ length b.core
       c = count_turn b map' m count k
 
-      at : (y : Machine) → TurnIs b m k y → IsMore b map' y.entries (run b map' y (replicate n k)).entries → ((run b map' y (replicate n k)).entries ≡ y.entries → local_at (run b map' y (replicate n k)) k ≤ local_at y k + n) → ((run b map' y (replicate n k)).entries ≡ y.entries → local_at (run b map' y (replicate n k)) k ≡ local_at y k + n → quiet_turns b map' k n y ≡ Some (run b map' y (replicate n k))) → (run b map' y (replicate n k)).entries ≡ m.entries → local_at (run b map' y (replicate n k)) k ≡ local_at m k + suc n → option_and_then (quiet_turns b map' k n) (if_quiet (is_over b m k) y (added m y)) ≡ Some (run b map' y (replicate n k))
+      at : (y : Machine) → TurnIs b m k y → IsMore b map' y.entries (run b map' y (replicate n k)).entries → ((run b map' y (replicate n k)).entries ≡ y.entries → local_at (run b map' y (replicate n k)) k ≤ local_at y k + n) → ((run b map' y (replicate n k)).entries ≡ y.entries → local_at (run b map' y (replicate n k)) k ≡ local_at y k + n → quiet_turns b map' k n y ≡ Ok (run b map' y (replicate n k))) → (run b map' y (replicate n k)).entries ≡ m.entries → local_at (run b map' y (replicate n k)) k ≡ local_at m k + suc n → and_then (quiet_turns b map' k n) (if_quiet m (is_over b m k) y (added m y)) ≡ Ok (run b map' y (replicate n k))
       at y (Over o s) more most next e l =
           let le = most (e ∙ ap (λ (z : Machine). z.entries) (sym s)) in
           let same : local_at y k ≡ local_at m k = ap (λ (z : Machine). local_at z k) s in
           absurd (omega arith)
-      at y (Quiet o s t i) more most next e l = ap (option_and_then (quiet_turns b map' k n)) (quiet_is m y k o s) ∙ next (e ∙ sym s) (omega (arith, l, i))
+      at y (Quiet o s t i) more most next e l = ap (and_then (quiet_turns b map' k n)) (quiet_is m y k o s) ∙ next (e ∙ sym s) (omega (arith, l, i))
       at y (Enters d o s a i z) more most next e l = no_longer m.entries d more.more (ap (λ es. es ++ more.more) (sym s) ∙ sym more.then ∙ e)
 
   follow_tails : (ts : List ℕ) (row core : ℕ) (m x : Machine) → length m.cores ≡ length b.core → AreFresh core m → WentTails b map' m core ts x → tail_rows b map' row core ts m ≡ Ok x
@@ -182,8 +183,9 @@ module _ (b : Board) (map' : AddressMap) where
   follow_tails [] row core m x count fresh w =
       let last : eqb core (length b.core) ≡ true = same_number core (length b.core) (omega (arith, w.long)) in
       let e : x ≡ m = w.is ∙ run-none b map' m in
-      ap (λ (t : Bool). cond t (end_row b row m) (Err row)) last
-      ∙ ap (λ (t : Bool). cond t (Ok m) (Err row)) (ap (λ (z : Machine). script_is_over b z z.script) (sym e) ∙ w.over)
+      ap (at_row row (λ (end : Machine). Ok end)) (
+      ap (λ (t : Bool). cond t (end_row b m) (Err m)) last
+      ∙ ap (λ (t : Bool). cond t (Ok m) (Err m)) (ap (λ (z : Machine). script_is_over b z z.script) (sym e) ∙ w.over))
       ∙ ap (λ (z : Machine). Ok z) (sym e)
     where
       same_number : (i j : ℕ) → i ≡ j → eqb i j ≡ true
@@ -203,8 +205,10 @@ module _ (b : Board) (map' : AddressMap) where
       let entries : y.entries ≡ m.entries = squeezed m.entries y.entries x.entries before.more after.more before.then (ap (λ (z : Machine). z.entries) go ∙ after.then) w.entries in
       let quiet = made_quiet core t m count entries (local ∙ omega (arith, fresh core (omega arith))) in
       let next : eqb core (length b.core) ≡ false = other_number core (length b.core) (omega (arith, w.long)) in
-      ap (λ (u : Bool). cond u (Err row) (at_row row (tail_rows b map' (row + 1) (core + 1) ts) (tail_row b map' core t m))) next
-      ∙ ap (at_row row (tail_rows b map' (row + 1) (core + 1) ts)) (ap (option_and_then (if_stopped core)) quiet ∙ ap (λ (u : Bool). cond u (Some y) None) over)
+      ap (at_row row (tail_rows b map' (row + 1) (core + 1) ts)) (
+      ap (λ (u : Bool). cond u (Err m) (tail_row b map' core t m)) next
+      ∙ ap (and_then (if_stopped core)) quiet
+      ∙ ap (λ (u : Bool). cond u (Ok y) (Err y)) over)
       ∙ follow_tails ts (row + 1) (core + 1) y x c (λ j le. ap local_of (others_run b map' core j t (λ i. omega arith) m) ∙ fresh j (omega arith)) (record {
         is = go;
         entries = w.entries ∙ sym entries;
@@ -242,20 +246,20 @@ all_tails_are (c ∷ cs) (t ∷ ts) e h =
 
 -- ---- the whole journal
 module _ (b : Board) (images : List Image) (map' : AddressMap) (j : Content) (long : length images ≡ length b.core) where
-  abbrev s : Machine
+  abbrev pub s : Machine
   s = start b images
 
-  starts_fresh : AreFresh 0 s
+  pub starts_fresh : AreFresh 0 s
   starts_fresh k le = at (slice_get (started_cores b.core images) k) refl
     where
       at : (o : Option Core) → slice_get (started_cores b.core images) k ≡ o → local_of o ≡ 0
       at None e = refl
       at (Some c) e = fresh_started b.core images k c e
 
-  count : length s.cores ≡ length b.core
+  pub count : length s.cores ≡ length b.core
   count = as_many b.core images long
 
-  turns_are : run b map' s (actors_of j) ≡ run b map' (run b map' s (entry_turns j.entries)) (actors_in (tail_turns 0 j.tails))
+  pub turns_are : run b map' s (actors_of j) ≡ run b map' (run b map' s (entry_turns j.entries)) (actors_in (tail_turns 0 j.tails))
   turns_are =
       ap (run b map' s) (flat_map-append (λ group. replicate group.1 group.0) (groups_of j.entries) (tail_turns 0 j.tails))
       ∙ run-append b map' (entry_turns j.entries) (actors_in (tail_turns 0 j.tails)) s
@@ -275,8 +279,8 @@ module _ (b : Board) (images : List Image) (map' : AddressMap) (j : Content) (lo
       two : (x y : Bool) → x ≡ true → y ≡ true → (x && y) ≡ true
       two x y e f = grind arith
 
-  after_by : (r : Result Machine ℕ) (x : Machine) → entry_rows b map' 2 j.entries s ≡ r → after_entries b map' j r ≡ Ok x → Records b map' s j × (x ≡ run b map' s (actors_of j))
-  after_by (Err row) x e h = absurd (cc)
+  after_by : (r : Result Machine Differs) (x : Machine) → entry_rows b map' 2 j.entries s ≡ r → after_entries b map' j r ≡ Ok x → Records b map' s j × (x ≡ run b map' s (actors_of j))
+  after_by (Err why) x e h = absurd (cc)
   after_by (Ok y) x e h =
       let v = all_entries b map' j.entries 2 s count starts_fresh y e in
       let c : length y.cores ≡ length b.core = ap (λ (z : Machine). length z.cores) v.is ∙ count_run b map' (entry_turns j.entries) s count in

@@ -20,3 +20,4 @@ pub mod Counted
 pub mod Compared
 pub mod Followed
 pub mod Bounded
+pub mod Named

@@ -74,7 +74,7 @@ request_is (Receive n) (Receive m) e = ap Receive (number n m e)
 request_is (Drain n) (Drain m) e = ap Drain (number n m e)
 request_is _ _ e = absurd (cc)
 
-request_self : (r : Request) → same_request r r ≡ true
+pub request_self : (r : Request) → same_request r r ≡ true
 request_self (FillCode l) = number_self l
 request_self (FillData l) = number_self l
 request_self (WriteBack l ws) = two (eqb l l) (same_words ws ws) (number_self l) (words_self ws)

@@ -1,6 +1,6 @@
 //! Laws on journals: what a run wrote replays.
 
-ghost use Rattle.std.specs.Prelude.{◌≡◌, ◌↔◌, ℕ, ◌≤◌, List, length, true, IsTrue, Some, None, Ok};
+ghost use Rattle.std.specs.Prelude.{◌≡◌, ◌≢◌, ◌↔◌, ℕ, ◌+◌, ◌≤◌, List, [], ◌∷◌, ◌++◌, length, true, IsTrue, None, Ok, Err};
 ghost use Rattle.std.specs.List.{AllByRecursion};
 ghost use Rattle.n2_elf.specs.declared.image.Image.{Image};
 ghost use Rattle.n2_elf.specs.Reading.{IsSized};
@@ -8,13 +8,13 @@ ghost use Rattle.n2_parts.specs.declared.board.Board.{Board};
 ghost use Rattle.n2_parts.specs.Valid.{IsValid};
 ghost use Rattle.n2_board.specs.AddressMap.{AddressMap, address_map};
 ghost use Rattle.n2_board.specs.Placement.{open_fault};
-ghost use Rattle.n2_journal.specs.declared.entry.Entry.{Entry};
+ghost use Rattle.n2_journal.specs.declared.entry.Entry.{Entry as EntryValue};
 ghost use Rattle.n2_journal.specs.Journals.{Content};
 ghost use Rattle.n2_runs.specs.Machine.{Machine, start, run, acts, is_finished};
 ghost use Rattle.n2_runs.specs.FlatRun.{flat_start, flat};
 ghost use Rattle.n2_runs.specs.Recorded.{journal_of, actors_of, Records};
 ghost use Rattle.n2_runs.specs.Same.{same_entry};
-ghost use Rattle.n2_runs.specs.Replay.{quiet_turns, replayed};
+ghost use Rattle.n2_runs.specs.Replay.{Differs, quiet_turns, replayed};
 
 /// What a run wrote replays. The run along the order that its journal tells comes to the same state of
 /// the machine: what cores share, the cores, the entries and the script that is left. So the journal of
@@ -34,7 +34,7 @@ pub fn same_flat_part()
 
 /// The test of two entries tells whether they are equal.
 pub fn same_entries()
-    ensures { (entry other : Entry) → same_entry entry other ≡ true ↔ entry ≡ other }
+    ensures { (entry other : EntryValue) → same_entry entry other ≡ true ↔ entry ≡ other }
 {}
 
 /// Replay finds what is no journal of a finished run. It comes to the end exactly where the journal is
@@ -45,9 +45,18 @@ pub fn replays()
     ensures finished { (b : Board) (images : List Image) (map : AddressMap) (order : List ℕ) → IsValid b → map ≡ address_map b images → length images ≡ length b.core → IsTrue (is_finished b (run b map (start b images) order)) → replayed b map (start b images) (journal_of (run b map (start b images) order)) ≡ Ok (run b map (start b images) order) }
 {}
 
+/// The row that a replay names is the first that differs. Where it is an entry's, the entries before it
+/// are those of a run, and no run along any list of actors has them and this one too. Where it is a tail's,
+/// no journal of a finished run has these entries, the tails before it and this one too.
+pub fn first_row()
+    ensures before { (b : Board) (images : List Image) (map : AddressMap) (j : Content) (why : Differs) (before after : List EntryValue) (entry : EntryValue) → length images ≡ length b.core → replayed b map (start b images) j ≡ Err why → j.entries ≡ before ++ entry ∷ after → why.row ≡ length before + 2 → (run b map (start b images) (actors_of (record { entries = before; tails = [] }))).entries ≡ before }
+    ensures entry { (b : Board) (images : List Image) (map : AddressMap) (j : Content) (why : Differs) (before after : List EntryValue) (entry : EntryValue) → length images ≡ length b.core → replayed b map (start b images) j ≡ Err why → j.entries ≡ before ++ entry ∷ after → why.row ≡ length before + 2 → IsValid b → map ≡ address_map b images → (order : List ℕ) (more : List EntryValue) → (run b map (start b images) order).entries ≢ before ++ entry ∷ more }
+    ensures tail { (b : Board) (images : List Image) (map : AddressMap) (j : Content) (why : Differs) (before after : List ℕ) (tail : ℕ) → length images ≡ length b.core → replayed b map (start b images) j ≡ Err why → j.tails ≡ before ++ tail ∷ after → why.row ≡ length j.entries + 2 + length before → (k : Content) → Records b map (start b images) k → (more : List ℕ) → k ≢ record { entries = j.entries; tails = before ++ tail ∷ more } }
+{}
+
 /// No row of a replay makes more turns than the board allows, whatever it claims: of the turns without a
 /// transfer that an entry or a tail counts, at most the board's number agree, and the first that does
 /// not is the last one that is looked at.
 pub fn replay_is_bounded()
-    ensures { (b : Board) (images : List Image) (map : AddressMap) (order : List ℕ) (actor n : ℕ) (m : Machine) → IsValid b → length images ≡ length b.core → quiet_turns b map actor n (run b map (start b images) order) ≡ Some m → n ≤ b.turns }
+    ensures { (b : Board) (images : List Image) (map : AddressMap) (order : List ℕ) (actor n : ℕ) (m : Machine) → IsValid b → length images ≡ length b.core → quiet_turns b map actor n (run b map (start b images) order) ≡ Ok m → n ≤ b.turns }
 {}

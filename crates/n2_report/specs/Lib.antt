@@ -1,2 +1,4 @@
 pub mod Stops
 pub mod Flat
+pub mod Transfers
+pub mod Report

@@ -146,7 +146,7 @@ fn put_verdict(out: &mut Vec<u8>, refused: bool) -> Result<(), NoMemory>
 
 /// Appends the flat part of a report: each core with its registers, each UART, and the verdict.
 #[tactic(auto, unfolding(crate::specs::Flat::flat_part))]
-fn put_flat_part(
+pub fn put_flat_part(
     out: &mut Vec<u8>,
     cores: &[CoreEnd],
     uarts: &[UartEnd<'_>],
@@ -168,7 +168,7 @@ fn put_line(out: &mut Vec<u8>, line: &MemoryLine) -> Result<(), NoMemory>
 }
 
 /// Appends a row for each line of memory.
-fn put_lines(out: &mut Vec<u8>, lines: &[MemoryLine]) -> Result<(), NoMemory>
+pub fn put_lines(out: &mut Vec<u8>, lines: &[MemoryLine]) -> Result<(), NoMemory>
     ensures { OnOk result (out.new.items ≡ out.old.items ++ flat_map spec.memory_row lines.now) }
 {
     for line in lines {

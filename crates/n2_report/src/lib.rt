@@ -1,14 +1,18 @@
-//! The texts of reports: how each core stands, what each UART was given, the verdict, and lines of
-//! memory.
+//! The texts of reports: how each core stands, what each UART was given, the verdict, turns and
+//! transfers of a run, and lines of memory.
 #![tactic(auto)]
 
 mod ends;
 mod flat;
+mod report;
 mod stops;
+mod transfers;
 
 pub use ends::{CoreEnd, MemoryLine, UartEnd};
 pub use flat::flat_text;
+pub use report::report_text;
 pub use stops::status;
+pub use transfers::Transfers;
 
 #[cfg(test)]
 mod tests;

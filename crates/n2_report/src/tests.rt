@@ -1,6 +1,9 @@
 use super::*;
+use n2_bus::{Reply, Request};
 use n2_exec::Regs;
+use n2_journal::Entry;
 use n2_parts::{Kind, Refusal, Stop};
+use n2_word::Width;
 use std::test::Fail;
 
 // Registers that are 0 but for the program counter, r2 and r31.
@@ -18,6 +21,21 @@ fn regs(pc: u32, r2: u32, r31: u32) -> Regs {
         latch: 0,
         cpuid: 0,
         vector: 0x20,
+    }
+}
+
+// A transfer of core 0 after so many turns without one.
+fn entry(local: u64, request: Request) -> Entry {
+    Entry {
+        local,
+        actor: 0,
+        request,
+        reply: Reply {
+            words: [0; 8],
+            lines: 0,
+            took: true,
+            pointer: 0,
+        },
     }
 }
 
@@ -121,4 +139,43 @@ fn gives_the_status_of_stops(rt: HostRuntime) {
     assert_eq!(rt; status(&[broke, None]), 2);
     assert_eq!(rt; status(&[broke, Some(Stop::Spent)]), 2);
     assert_eq!(rt; status(&[Some(Stop::LogFull)]), 2);
+}
+
+// The report of the row `step` on the plain board: six words are fetched in one line, and two bytes
+// go to the UART.
+#[test]
+fn reports_a_run(rt: HostRuntime) -> Result<(), Fail> {
+    let mut broke = regs(0x14, 0x69, 0);
+    broke.gpr[8] = 0x1_0000;
+    let cores = [CoreEnd {
+        regs: broke,
+        stop: Some(Stop::Broke),
+    }];
+    let uarts = [UartEnd {
+        name: "u0",
+        sent: b"hi",
+    }];
+    let entries = [
+        entry(0, Request::FillCode(0)),
+        entry(2, Request::Write(0x1_0000, Width::Word, 0x68)),
+        entry(1, Request::Write(0x1_0000, Width::Word, 0x69)),
+    ];
+    let want = "nios2 report 1
+core 0 broke 00000014
+r0 00000000 00000000 00000069 00000000 00000000 00000000 00000000 00000000
+r8 00010000 00000000 00000000 00000000 00000000 00000000 00000000 00000000
+r16 00000000 00000000 00000000 00000000 00000000 00000000 00000000 00000000
+r24 00000000 00000000 00000000 00000000 00000000 00000000 00000000 00000000
+ctl 00000000 00000000 00000000 00000000 00000000
+uart u0 2 6869
+verdict certified
+end 0 stopped 7
+transfers 1 0 0 0 2 0 0
+";
+    let transfers = Transfers::of_entries(&entries);
+    assert_eq!(rt;
+        report_text(rt.alloc(), &cores, &[7], &uarts, &transfers, &[])?.as_slice(),
+        want.as_bytes()
+    );
+    Ok(())
 }

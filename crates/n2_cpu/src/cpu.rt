@@ -115,6 +115,13 @@ impl Core {
         self.state.clock.turns
     }
 
+    /// How many turns it made since its last transfer.
+    pub fn since_transfer(&self) -> u64
+        ensures { result ≡ self.now.clock.local }
+    {
+        self.state.clock.local
+    }
+
     /// Why it stopped; None exactly where it runs.
     pub fn stop(&self) -> Option<Stop>
         ensures { result ≡ self.now.stop }

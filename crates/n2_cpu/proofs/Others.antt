@@ -101,7 +101,7 @@ module _ (P : World → Type 0) (b : Board) (map : AddressMap) (j : ℕ) (w : Wo
 
 -- ---- another core
 module _ (b : Board) (map : AddressMap) (k : ℕ) (s : State) (c : Core) (w other : World) (h : StandsFor b map k s c w) where
-  with_watch : watched.StandsFor b map s.clock.number s.watch other.book c.front.past → StandsFor b map k s c other
+  pub with_watch : watched.StandsFor b map s.clock.number s.watch other.book c.front.past → StandsFor b map k s c other
   with_watch watch = record {
     number = h.number;
     within = h.within;
@@ -115,7 +115,7 @@ module _ (b : Board) (map : AddressMap) (k : ℕ) (s : State) (c : Core) (w othe
     holds = record { watch = watch; data_lines = h.holds.data_lines; code_lines = h.holds.code_lines };
   }
 
-  watch_in : ((guard : Guard) → owned_by b other.book k guard ≡ owned_by b w.book k guard) → ((index : ℕ) (row : MailboxRow) → slice_get b.mailbox index ≡ Some row → IsTrue (row.sender == k) → pointer_of other.book index ≡ pointer_of w.book index) → watched.StandsFor b map s.clock.number s.watch other.book c.front.past
+  pub watch_in : ((guard : Guard) → owned_by b other.book k guard ≡ owned_by b w.book k guard) → ((index : ℕ) (row : MailboxRow) → slice_get b.mailbox index ≡ Some row → IsTrue (row.sender == k) → pointer_of other.book index ≡ pointer_of w.book index) → watched.StandsFor b map s.clock.number s.watch other.book c.front.past
   watch_in owns points =
       let g = h.holds.watch in
       record {

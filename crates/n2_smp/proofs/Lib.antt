@@ -1,1 +1,4 @@
 pub mod Passing
+pub mod Cores
+pub mod Events
+pub mod Machines

@@ -1,5 +1,5 @@
 -- When a machine's value stands for a state of the caching machine.
-use Rattle.std.specs.Prelude.{◌≡◌, ℕ, ◌==◌, ◌<◌, Bool, true, false, if◌then◌else◌, List, length, Option, Some, None, is_some, slice_get}
+use Rattle.std.specs.Prelude.{◌≡◌, ℕ, ◌<◌, Bool, true, false, List, length, Option, Some, None, slice_get}
 use Rattle.n2_parts.specs.declared.board.Board.{Board}
 use Rattle.n2_parts.specs.declared.stops.Act.{Act}
 use Rattle.n2_board.specs.AddressMap.{AddressMap}
@@ -14,7 +14,7 @@ use Rattle.n2_front.specs.Core.{Core, stop_of}
 use Rattle.n2_front.specs.Turn.{wants}
 use Rattle.n2_cpu.specs.declared.state.State.{State}
 use Rattle.n2_cpu.specs.Stands as cpu
-use Rattle.n2_runs.specs.Machine.{Machine, turn, tails, script_is_over}
+use Rattle.n2_runs.specs.Machine.{Machine, turn, is_over}
 use Rattle.n2_runs.specs.Knows.{IsBookKept}
 use Rattle.n2_smp.specs.declared.turns.Turned.{Turned}
 use Rattle.n2_smp.specs.declared.turns.Turned.TheVariants as answers
@@ -48,14 +48,6 @@ pub record IsSound (v : Parts) : Type 0 where
   pub kept : IsBookKept v.board v.map state
 
 -- ---- turns
-
-abbrev pub core_is_over : Option Core → Bool
-core_is_over None = true
-core_is_over (Some c) = is_some (stop_of c)
-
--- an actor makes no more turns: a core that has stopped, and the device actor where its script is used up or the journal full
-abbrev pub is_over : Board → Machine → ℕ → Bool
-is_over b m actor = if actor == length b.core then script_is_over b m m.script else core_is_over (slice_get m.cores actor)
 
 -- what a turn answers, by whether its actor was over and by its act
 abbrev pub answer_of : Bool → Option Act → Turned
@@ -91,19 +83,19 @@ pub record IsWanted (b : Board) (map : AddressMap) (k : ℕ) (m : Machine) (requ
 -- they stand for the state after a turn of core k, with its act or with its answer
 pub record IsMadeAt (b : Board) (map : AddressMap) (k : ℕ) (value : State) (behind : BusState) (journal : Limited) (m : Machine) (act : Option Act) : Type 0 where
   pub stands : StandsAt b map k value behind journal (turn b map m k).machine
-  pub act : act ≡ (turn b map m k).act
+  pub act_is : act ≡ (turn b map m k).act
 
 pub record IsTurnedAt (b : Board) (map : AddressMap) (k : ℕ) (value : State) (behind : BusState) (journal : Limited) (m : Machine) (answer : Turned) : Type 0 where
   pub stands : StandsAt b map k value behind journal (turn b map m k).machine
-  pub answer : answer ≡ answer_of (is_over b m k) (turn b map m k).act
+  pub answer_is : answer ≡ answer_of (is_over b m k) (turn b map m k).act
 
 -- ---- the parts that a turn of the device actor uses
 pub record EventsStandFor (b : Board) (behind : BusState) (journal : Limited) (script : Reached) (m : Machine) : Type 0 where
   pub bus : bus.StandsFor b behind (shared m.world)
   pub entries : journal.content.entries ≡ m.entries
   pub limit : journal.limit ≡ b.journal
-  pub script : left b script ≡ m.script
+  pub left_is : left b script ≡ m.script
 
 pub record AreTurned (b : Board) (map : AddressMap) (behind : BusState) (journal : Limited) (script : Reached) (m : Machine) (answer : Turned) : Type 0 where
   pub stand : EventsStandFor b behind journal script (turn b map m (length b.core)).machine
-  pub answer : answer ≡ answer_of (is_over b m (length b.core)) (turn b map m (length b.core)).act
+  pub answer_is : answer ≡ answer_of (is_over b m (length b.core)) (turn b map m (length b.core)).act

@@ -1,8 +1,10 @@
 //! The caching machine over an order of turns.
 #![tactic(auto)]
 
+mod machine;
 mod script;
 mod turns;
 
+pub use machine::Machine;
 pub use script::Script;
 pub use turns::Turned;

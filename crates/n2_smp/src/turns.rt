@@ -1,11 +1,11 @@
 //! One turn of one actor, over the parts of a machine that it uses.
 
-ghost use Rattle.std.specs.Prelude.{◌≡◌, ℕ, ◌<◌, nat_lt, length};
+ghost use Rattle.std.specs.Prelude.{◌≡◌, ℕ, nat_lt, false, length, IsTrue};
 ghost use Rattle.n2_parts.specs.declared.board.Board.{Board as BoardValue};
 ghost use Rattle.n2_parts.specs.Valid.{IsValid};
 ghost use Rattle.n2_board.specs.AddressMap.{AddressMap};
 ghost use Rattle.n2_bus.specs.Transfer as transfers;
-ghost use Rattle.n2_bus.specs.Wiring.{wiring_of};
+ghost use Rattle.n2_bus.specs.Wiring.{wiring_of, proper};
 ghost use Rattle.n2_runs.specs.Machine.{Machine};
 ghost use Rattle.n2_runs.specs.Knows.{IsBookKept};
 ghost use Rattle.n2_smp.specs.Scripts.{IsReached};
@@ -54,6 +54,7 @@ fn transfer(
     request: Request,
 ) -> Option<Act>
     requires ready { IsReady layout.now actor core.old bus.old journal.old }
+    requires proper { IsTrue (proper bus.old.wiring actor request) }
     requires wanted { (b : BoardValue) (m : Machine) → StandsAt b layout.now actor core.old bus.old journal.old m → IsBookKept b layout.now m → IsWanted b layout.now actor m request }
     ensures made { (b : BoardValue) (m : Machine) → StandsAt b layout.now actor core.old bus.old journal.old m → IsBookKept b layout.now m → IsMadeAt b layout.now actor core.new bus.new journal.new m result }
     ensures tails { journal.new.content.tails ≡ journal.old.content.tails }

@@ -9,7 +9,7 @@ use Rattle.n2_smp.proofs.script.Script.event.Goals as goal
 pub returns-in-Some-clause-next : goal.returns-in-Some-clause-next
 returns-in-Some-clause-next c =
     let found : slice_get c.args.board.now.script c.args.self.now.row ≡ Some c.in-Some.row.now =
-        ap (λ (r : Reached). slice_get c.args.board.now.script r.row) (sym c.self.view_is) ∙ ap (λ (rows : List ScriptRow). slice_get rows c.self.inside.row) (sym c.as_slice.ensures) ∙ sym c.in-Some.ensures
+    ap (λ (r : Reached). slice_get c.args.board.now.script r.row) (sym c.self.view_is) ∙ ap (λ (rows : List ScriptRow). slice_get rows c.self.inside.row) (sym c.as_slice.ensures) ∙ sym c.in-Some.ensures
     in
     sym (next_event c.args.board.now c.args.self.now c.in-Some.row.now found (c.requires c.in-Some.row.now found))
 
@@ -19,6 +19,6 @@ returns-in-Some-clause-proper c = λ valid. script_passes c.args.board.now c.sel
 pub returns-in-None-clause-next : goal.returns-in-None-clause-next
 returns-in-None-clause-next c =
     let none : slice_get c.args.board.now.script c.args.self.now.row ≡ None =
-        ap (λ (r : Reached). slice_get c.args.board.now.script r.row) (sym c.self.view_is) ∙ ap (λ (rows : List ScriptRow). slice_get rows c.self.inside.row) (sym c.as_slice.ensures) ∙ sym c.in-None.ensures
+    ap (λ (r : Reached). slice_get c.args.board.now.script r.row) (sym c.self.view_is) ∙ ap (λ (rows : List ScriptRow). slice_get rows c.self.inside.row) (sym c.as_slice.ensures) ∙ sym c.in-None.ensures
     in
     sym (ap (λ (events : List DeviceEvent). slice_get events 0) (nothing_left c.args.board.now c.args.self.now none))

@@ -1,4 +1,12 @@
-pub mod Words
-pub mod Acts
 pub mod PlainBoard
-pub mod Laid
+pub mod Straying
+pub mod Judged
+pub mod Noted
+pub mod Shared
+pub mod Guarded
+pub mod Uarts
+pub mod Tasked
+pub mod Alone
+pub mod Fetched
+pub mod Aligned
+pub mod Whole

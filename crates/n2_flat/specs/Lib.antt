@@ -1,3 +1,2 @@
-pub mod Memory
 pub mod PlainBoard
-pub mod Machine
+pub mod State

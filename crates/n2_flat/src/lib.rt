@@ -1,13 +1,16 @@
-//! The flat machine on the plain board: one memory, one core and one UART, without caches.
+//! The flat machine: one memory without caches, the devices, and cores whose accesses are judged.
 #![tactic(auto)]
 
 mod board;
+mod bypass;
+mod bytes;
+mod common;
+mod cores;
+mod events;
 mod machine;
-mod memory;
+mod retire;
+mod tasks;
 
 pub use board::plain_board;
-pub use machine::{PlainEnd, PlainFault, plain_run};
 pub use n2_board::{Kind, Refusal, Stop};
-
-#[cfg(test)]
-mod tests;
+pub use n2_watch::Past;

@@ -1,272 +1,181 @@
-//! The core of the plain board over its memory, one instruction at a time.
+//! The flat machine.
 
-ghost use Rattle.std.specs.Prelude.{◌≡◌, ℕ, ◌/◌, ◌^◌, ◌<◌, [], ◌∷◌, None, length, Ok, IfOk, OnOk, MatchResult, IsTrue};
+ghost use Rattle.std.specs.Prelude.{◌≡◌, ◌<◌, ℕ, IsTrue, OnOk, OnErr, IfOk, Some, None, [], length, slice_get, slice_set, reverse, get_or};
+ghost use Rattle.n2_word.specs.declared.Width.TheVariants.{Word};
 ghost use Rattle.n2_word.specs.Words.{is_aligned};
-ghost use Rattle.n2_word.specs.Lines.{without_bypass};
-ghost use Rattle.n2_exec.specs.Outcomes.{IsProper};
-ghost use Rattle.n2_elf.specs.Reading.{IsSized};
-ghost use Rattle.n2_board.specs.Placement.{open_fault};
-ghost use Rattle.n2_flat.specs.PlainBoard.{plain_board, plain_map};
-ghost use Rattle.n2_flat.specs.Machine.{started, flat, stop_for as stop_of, sent_by, load_from, store_to, performed, running, retired_times, plain, AnswersTo, HasMemory};
+ghost use Rattle.n2_word.specs.Lines.{line as line_number};
+ghost use Rattle.n2_parts.specs.MemoryLines.{HasLine};
+ghost use Rattle.n2_memory.specs.Memories.{read_at};
+ghost use Rattle.n2_bus.specs.Wiring.{wiring_of, proper};
+ghost use Rattle.n2_bus.specs.Transfer.{request_for};
+ghost use Rattle.n2_watch.specs.World.{transferred};
+ghost use Rattle.n2_front.specs.Retire.{retired};
+ghost use Rattle.n2_runs.specs.FlatRun.{act as acted_by, sampled_by, unless_stopped};
+ghost use Rattle.n2_flat.specs.State.{CoreState, IsWhole, IsActOf, IsAt, IsWatched, IsAligned, machine_of, acted_by as with_common, common_after};
 
-use crate::board::{EXCEPTION, MEMORY_BYTES, WRITE_DEPTH};
-use crate::memory::{open_memory, read, write};
-use n2_board::{Direction, Kind, Layout, Refusal, Route, Stop, Target, Violation};
-use n2_elf::Image;
-use n2_exec::{Asked, Regs, act_word, extended, waiting};
-use n2_text::Items;
-use n2_word::{NoMemory, Width, line_of};
-use std::alloc::Global;
+use crate::common::Common;
+use crate::cores::FlatCore;
+use n2_board::{Act, Board, DeviceEvent, Layout, Stop};
+use n2_bus::Request;
+use n2_exec::Regs;
+use n2_watch::Past;
+use n2_word::NoMemory;
+use std::marker::Model;
 
-/// Where the core of the plain board stands.
-#[derive(Debug, Drop)]
-pub struct PlainEnd {
-    pub regs: Regs,
-    /// None while the core runs.
-    pub stop: Option<Stop>,
-    /// The bytes that the UART's write queue took.
-    pub sent: Items<u8>,
+/// The flat machine: a board's memories and devices without caches, and its cores.
+#[derive(Drop)]
+pub struct Flat {
+    board: Board,
+    common: Common,
+    cores: Vec<FlatCore>,
 }
 
-/// Why there is no end.
-#[derive(Clone, Copy, Debug, PartialEq, Eq)]
-pub enum PlainFault {
-    /// The run came to an access that is not built: the program counter and the instruction's word.
-    Unbuilt { pc: u32, word: u32 },
-    /// No memory was left.
-    NoMemory,
+impl Model for Flat {
+    ghost use Rattle.n2_flat.specs.State.{State};
+
+    ghost Value = { State };
+
+    ghost view = { λ m. record { board = m.board; common = m.common; cores = m.cores.items } };
 }
 
-/// The number of the one core.
-const CORE: u32 = 0;
-
-fn stop_for(violation: Violation, pc: u32, word: u32, address: u32) -> Stop
-    ensures { result ≡ stop_of violation pc word address }
+/// The request for an event.
+fn request_for(event: DeviceEvent) -> Request
+    ensures { result ≡ request_for event }
 {
-    match violation {
-        Violation::Stray => Stop::Stray(address),
-        Violation::Separate => Stop::Refused(Refusal {
-            kind: Kind::Separate,
-            pc,
-            insn: word,
-            address,
-            line: line_of(address),
-        }),
+    match event {
+        DeviceEvent::Tick(n) => Request::Tick(n),
+        DeviceEvent::Receive(uart) => Request::Receive(uart),
+        DeviceEvent::Drain(uart) => Request::Drain(uart),
     }
 }
 
-impl PlainEnd {
-    /// The core before its first instruction.
-    fn start(alloc: Global, image: &Image) -> Result<PlainEnd, NoMemory>
-        ensures { IfOk result (λ end. end ≡ started image.now) }
+impl FlatCore {
+    /// The core latches its interrupt lines.
+    fn sample(&mut self, board: &Board, k: u32, layout: &Layout, common: &mut Common)
+        requires { IsAt board.now layout.now k common.old self.old }
+        ensures done { with_common self.new common.old ≡ sampled_by board.now layout.now k self.old.front common.old.world }
+        ensures common { common.new ≡ common.old }
+        ensures past { self.new.front.past ≡ self.old.front.past }
+        ensures watched { IsWatched board.now layout.now k common.old.world.book self.new }
+        ensures aligned { IsAligned self.old.front.regs → IsAligned self.new.front.regs }
     {
-        Ok(PlainEnd {
-            regs: Regs::at_reset(image.entry, 0, EXCEPTION),
-            stop: None,
-            sent: Items::new(alloc),
-        })
+        n2_bus::laws::what_passes_is_proper();
+        let reply = common.transfer(k, &Request::Sample);
+        self.regs.latch_lines(reply.lines);
     }
+}
 
-    /// Puts the low byte of a value into the UART's write queue where there is room.
-    fn send(&mut self, value: u32) -> Result<(), NoMemory>
-        ensures { OnOk result (self.new ≡ sent_by self.old value) }
-    {
-        if self.sent.len() < WRITE_DEPTH as usize {
-            self.sent.push((value & 0xff) as u8)?;
-        }
-        self.regs.advance();
-        Ok(())
-    }
-
-    fn unbuilt(&self, word: u32) -> PlainFault
-        ensures { result ≡ PlainFault.Unbuilt self.now.regs.pc word }
-    {
-        PlainFault::Unbuilt {
-            pc: self.regs.pc,
-            word,
-        }
-    }
-
+impl Flat {
+    /// A core's interrupt, instruction or stop; a core that stopped stays as it is.
     #[inline(always)]
-    fn load(
-        &mut self,
-        target: Target,
-        memory: &[u32],
-        word: u32,
-        address: u32,
-        width: Width,
-        signed: bool,
-        to: u8,
-    ) -> Result<(), PlainFault>
-        requires inside { target ≡ Target.Memory → without_bypass address / 4 < length memory.now }
-        requires register { to < 32 }
-        requires aligned { IsTrue (is_aligned address width) }
-        ensures { MatchResult result (λ _. load_from target (flat memory.now self.old) word address width signed to ≡ Ok (flat memory.now self.new)) (λ fault. AnswersTo (load_from target (flat memory.now self.old) word address width signed to) fault) }
+    fn retire(&mut self, layout: &Layout, k: u32) -> Result<(), NoMemory>
+        requires whole { IsWhole layout.now self.old }
+        requires core { k < length self.old.board.core }
+        ensures done { OnOk result (machine_of self.new ≡ acted_by self.old.board layout.now (machine_of self.old) (Act.Retire k)) }
+        ensures same { OnErr result (self.new ≡ self.old) }
+        ensures whole { IsWhole layout.now self.new }
     {
-        match target {
-            Target::Memory => {
-                let value = extended(read(memory, address & 0x7fff_ffff, width), width, signed);
-                self.regs.put_loaded(to, value);
-                Ok(())
-            }
-            Target::Device { .. } => Err(self.unbuilt(word)),
-        }
-    }
-
-    #[inline(always)]
-    fn store(
-        &mut self,
-        target: Target,
-        memory: &mut [u32],
-        word: u32,
-        address: u32,
-        width: Width,
-        value: u32,
-    ) -> Result<(), PlainFault>
-        requires inside { target ≡ Target.Memory → without_bypass address / 4 < length memory.old }
-        requires aligned { IsTrue (is_aligned address width) }
-        ensures { MatchResult result (λ _. store_to target (flat memory.old self.old) word address width value ≡ Ok (flat memory.new self.new)) (λ fault. AnswersTo (store_to target (flat memory.old self.old) word address width value) fault) }
-    {
-        match target {
-            Target::Memory => {
-                write(memory, address & 0x7fff_ffff, width, value);
-                self.regs.advance();
-                Ok(())
-            }
-            Target::Device { offset: 0, .. } => match self.send(value) {
-                Ok(()) => Ok(()),
-                Err(NoMemory) => Err(PlainFault::NoMemory),
-            },
-            Target::Device { .. } => Err(self.unbuilt(word)),
-        }
-    }
-
-    /// What an instruction leaves to do.
-    #[inline(always)]
-    fn perform(
-        &mut self,
-        layout: &Layout,
-        memory: &mut [u32],
-        word: u32,
-        asked: Asked,
-    ) -> Result<(), PlainFault>
-        requires places { HasMemory layout.now (length memory.old) }
-        requires proper { IsProper asked }
-        ensures { MatchResult result (λ _. performed layout.now (flat memory.old self.old) word asked ≡ Ok (flat memory.new self.new)) (λ fault. AnswersTo (performed layout.now (flat memory.old self.old) word asked) fault) }
-    {
-        match asked {
-            Asked::Done => Ok(()),
-            Asked::Load {
-                address,
-                width,
-                signed,
-                io,
-                to,
-            } => match layout.data_target(
-                CORE,
-                address,
-                width,
-                Route::of(address, io),
-                Direction::Load,
-            ) {
-                Err(violation) => {
-                    self.stop = Some(stop_for(violation, self.regs.pc, word, address));
-                    Ok(())
-                }
-                Ok(target) => self.load(target, memory, word, address, width, signed, to),
-            },
-            Asked::Store {
-                address,
-                width,
-                value,
-                io,
-            } => match layout.data_target(
-                CORE,
-                address,
-                width,
-                Route::of(address, io),
-                Direction::Store,
-            ) {
-                Err(violation) => {
-                    self.stop = Some(stop_for(violation, self.regs.pc, word, address));
-                    Ok(())
-                }
-                Ok(target) => self.store(target, memory, word, address, width, value),
-            },
-            Asked::LineOp { .. } | Asked::CodeOp { .. } => {
-                self.regs.advance();
-                Ok(())
-            }
-            Asked::Raise(_) => {
-                self.regs.take_exception();
-                Ok(())
-            }
-            Asked::Broke => {
-                self.stop = Some(Stop::Broke);
-                Ok(())
-            }
-        }
-    }
-
-    /// One act of a core that runs.
-    #[inline(always)]
-    fn go(&mut self, layout: &Layout, memory: &mut [u32]) -> Result<(), PlainFault>
-        requires { HasMemory layout.now (length memory.old) }
-        ensures { MatchResult result (λ _. running layout.now (flat memory.old self.old) ≡ Ok (flat memory.new self.new)) (λ fault. AnswersTo (running layout.now (flat memory.old self.old)) fault) }
-    {
-        if waiting(&self.regs) {
-            self.regs.take_interrupt();
+        let core = &mut self.cores[k as usize];
+        if core.stop.is_some() {
             return Ok(());
         }
-        let pc = self.regs.pc;
-        if let Some(violation) = layout.fetch_violation(pc) {
-            self.stop = Some(stop_for(violation, pc, 0, pc));
-            return Ok(());
-        }
-        let word = memory[(pc / 4) as usize];
-        let asked = act_word(&mut self.regs, word);
-        self.perform(layout, memory, word, asked)
+        core.retire(&self.board, k, layout, &mut self.common)
     }
 
-    /// So many acts; a core that stopped makes no more.
-    fn run(&mut self, layout: &Layout, memory: &mut [u32], steps: u32) -> Result<(), PlainFault>
-        requires { HasMemory layout.now (length memory.old) }
-        ensures { MatchResult result (λ _. retired_times layout.now steps (flat memory.old self.old) ≡ Ok (flat memory.new self.new)) (λ fault. AnswersTo (retired_times layout.now steps (flat memory.old self.old)) fault) }
+    /// A core latches its interrupt lines; a core that stopped stays as it is.
+    fn sample(&mut self, layout: &Layout, k: u32)
+        requires whole { IsWhole layout.now self.old }
+        requires core { k < length self.old.board.core }
+        ensures done { machine_of self.new ≡ acted_by self.old.board layout.now (machine_of self.old) (Act.Sample k) }
+        ensures whole { IsWhole layout.now self.new }
     {
-        'acts: for _ in 0..steps {
-            if self.stop.is_some() {
-                break;
+        let core = &mut self.cores[k as usize];
+        if core.stop.is_some() {
+            return;
+        }
+        core.sample(&self.board, k, layout, &mut self.common);
+    }
+
+    /// An event of the devices.
+    fn happen(&mut self, layout: &Layout, event: DeviceEvent)
+        requires whole { IsWhole layout.now self.old }
+        requires proper { IsTrue (proper (wiring_of self.old.board) (length self.old.board.core) (request_for event)) }
+        ensures done { machine_of self.new ≡ acted_by self.old.board layout.now (machine_of self.old) (Act.Device event) }
+        ensures whole { IsWhole layout.now self.new }
+    {
+        let actor = self.board.core.len() as u32;
+        let _ = self.common.transfer(actor, &request_for(event));
+    }
+
+    /// Makes an act. After want of memory nothing has changed.
+    #[inline(always)]
+    pub fn act(&mut self, layout: &Layout, act: &Act) -> Result<(), NoMemory>
+        requires whole { IsWhole layout.now self.old }
+        requires there { IsActOf self.old.board act.now }
+        ensures done { OnOk result (machine_of self.new ≡ acted_by self.old.board layout.now (machine_of self.old) act.now) }
+        ensures same { OnErr result (self.new ≡ self.old) }
+        ensures whole { IsWhole layout.now self.new }
+    {
+        match *act {
+            Act::Retire(k) => self.retire(layout, k),
+            Act::Sample(k) => {
+                self.sample(layout, k);
+                Ok(())
             }
-            if let Err(fault) = self.go(layout, memory) {
-                return Err(fault);
+            Act::Device(event) => {
+                self.happen(layout, event);
+                Ok(())
             }
         }
-        Ok(())
     }
-}
 
-/// Where the plain board's core stands after an image made `steps` acts on it, or stopped. The
-/// layout is that of the plain board with this image.
-#[tactic(auto, unfolding(crate::specs::Machine::plain))]
-pub fn plain_run(
-    alloc: Global,
-    image: &Image,
-    layout: &Layout,
-    steps: u32,
-) -> Result<PlainEnd, PlainFault>
-    requires sized { IsSized image.now }
-    requires fits { open_fault plain_board (image.now ∷ []) ≡ None }
-    requires opened { layout.now ≡ plain_map image.now }
-    ensures { MatchResult result (λ end. plain image.now steps ≡ Ok end) (λ fault. AnswersTo (plain image.now steps) fault) }
-{
-    let Ok(mut memory) = open_memory(alloc, MEMORY_BYTES / 4, image) else {
-        return Err(PlainFault::NoMemory);
-    };
-    let Ok(mut end) = PlainEnd::start(alloc, image) else {
-        return Err(PlainFault::NoMemory);
-    };
-    match end.run(layout, &mut memory, steps) {
-        Ok(()) => Ok(end),
-        Err(fault) => Err(fault),
+    /// How many cores there are.
+    pub fn cores(&self) -> usize
+        ensures { result ≡ length self.now.cores }
+    {
+        self.cores.len()
+    }
+
+    /// The registers of a core.
+    pub fn regs(&self, k: u32) -> Regs
+        requires { k < length self.now.cores }
+        ensures { (c : CoreState) → slice_get self.now.cores k ≡ Some c → result ≡ c.front.regs }
+    {
+        self.cores[k as usize].regs
+    }
+
+    /// Why a core stopped, if it did.
+    pub fn stop(&self, k: u32) -> Option<Stop>
+        requires { k < length self.now.cores }
+        ensures { (c : CoreState) → slice_get self.now.cores k ≡ Some c → result ≡ c.front.stop }
+    {
+        self.cores[k as usize].stop
+    }
+
+    /// The past events of a core, the oldest first.
+    pub fn past(&self, k: u32) -> &[Past]
+        requires { k < length self.now.cores }
+        ensures { (c : CoreState) → slice_get self.now.cores k ≡ Some c → reverse result.now ≡ c.front.past }
+    {
+        self.cores[k as usize].past.as_slice()
+    }
+
+    /// The word of a memory at an address.
+    pub fn word(&self, address: u32) -> u32
+        requires inside { HasLine self.now.common.wiring.memories (line_number address) }
+        requires aligned { IsTrue (is_aligned address Word) }
+        ensures { result ≡ read_at self.now.common.world.memory address Word }
+    {
+        self.common.word(address)
+    }
+
+    /// The bytes that writes put into the queue of a UART.
+    pub fn output(&self, uart: u32) -> &[u8]
+        ensures { result.now ≡ get_or self.now.common.world.book.sent uart [] }
+    {
+        match self.common.sent.get(uart as usize) {
+            Some(bytes) => bytes.as_slice(),
+            None => &[],
+        }
     }
 }

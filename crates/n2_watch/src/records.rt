@@ -326,6 +326,14 @@ impl Records {
         self.got[slot] = self.clock;
     }
 
+    /// Whether the clock has room for one more note.
+    #[inline(always)]
+    pub fn has_room(&self) -> bool
+        ensures { IsTrue result ↔ self.now.clock + 1 < 2 ^ 64 }
+    {
+        self.clock < u64::MAX
+    }
+
     /// A note that changes no record.
     fn pass(&mut self)
         requires { self.old.clock + 1 < 2 ^ 64 }

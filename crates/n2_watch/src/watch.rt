@@ -1,6 +1,6 @@
 //! What a core knows of the discipline, and the judge of its accesses.
 
-ghost use Rattle.std.specs.Prelude.{◌≡◌, ◌≢◌, ◌==◌, ◌&&◌, ℕ, Bool, List, ◌<◌, Some, None, Ok, Err, false, option_map, get_or, slice_get, length, IfOk, []};
+ghost use Rattle.std.specs.Prelude.{◌≡◌, ◌≢◌, ◌↔◌, ◌==◌, ◌&&◌, IsTrue, ◌+◌, ◌^◌, ℕ, Bool, List, ◌<◌, Some, None, Ok, Err, false, option_map, get_or, slice_get, length, IfOk, []};
 ghost use Rattle.std.specs.List.{list_any};
 ghost use Rattle.n2_word.specs.declared.Width.{Width as WidthValue};
 ghost use Rattle.n2_word.specs.Lines.{line as line_number};
@@ -150,9 +150,17 @@ impl Watch {
         })
     }
 
+    /// Whether the clock has room for one more note.
+    #[inline(always)]
+    pub fn has_room(&self) -> bool
+        ensures { IsTrue result ↔ self.now.table.clock + 1 < 2 ^ 64 }
+    {
+        self.records.has_room()
+    }
+
     /// Whether the core owns a guard.
     #[inline(always)]
-    fn owns(&self, guard: Guard) -> bool
+    pub fn owns(&self, guard: Guard) -> bool
         ensures { result ≡ get_or self.now.owned (slot_of guard) false }
     {
         match self.owned.get(slot_of(guard) as usize) {
@@ -328,8 +336,8 @@ impl Watch {
         }
     }
 
-    /// The passed region that the Pointer register of a mailbox lies in.
-    fn region_at(&self, layout: &Layout, mailbox: u32) -> Option<u32>
+    /// The passed region that the Pointer register of a mailbox lies in, where the core sends to it.
+    pub fn region_at(&self, layout: &Layout, mailbox: u32) -> Option<u32>
         ensures { result ≡ passed_region (class_of layout.now (line_number (get_or self.now.pointers mailbox 0))) }
     {
         let pointer = match self.pointers.get(mailbox as usize) {

@@ -1,0 +1,76 @@
+use Rattle.std.proofs.Common.{◌≡◌, ℕ, if◌then◌else◌, Bool, true, false, Some, None, Ok, List, Option, IsTrue, get_or, refl, sym, ap, subst, ◌∙◌}
+use Rattle.n2_word.specs.Lines.{without_bypass}
+use Rattle.n2_word.specs.declared.Width.{Width}
+use Rattle.n2_word.specs.declared.Width.TheVariants.{Word}
+use Rattle.n2_word.specs.Words.{is_aligned}
+use Rattle.n2_exec.specs.declared.registers.Regs.{Regs}
+use Rattle.n2_exec.specs.Registers.{latched, loaded_regs, passed_regs}
+use Rattle.n2_board.specs.declared.access.Route.TheVariants.{Bypassing}
+use Rattle.n2_board.specs.declared.guards.Guard.{Guard}
+use Rattle.n2_board.specs.declared.guards.Holder.TheVariants.{ByCore}
+use Rattle.n2_board.specs.declared.places.Place.{Place}
+use Rattle.n2_board.specs.declared.places.Place.TheVariants.{Device}
+use Rattle.n2_board.specs.AddressMap.{AddressMap, place}
+use Rattle.n2_board.specs.Access.{data_target}
+use Rattle.n2_bus.specs.Wiring.{Wiring, wiring_of, proper}
+use Rattle.n2_bus.specs.Transfer.{served}
+use Rattle.n2_bus.specs.declared.request.Reply.{Reply}
+use Rattle.n2_bus.specs.declared.request.Request.{Request}
+use Rattle.n2_bus.specs.declared.request.Request.TheVariants.{Read, Write}
+use Rattle.n2_watch.specs.declared.past.Past.{Past}
+use Rattle.n2_watch.specs.declared.access.Access.TheVariants.{Bypass}
+use Rattle.n2_watch.specs.Discipline.{direction, breach}
+use Rattle.n2_watch.specs.Book.{Book, past_after}
+use Rattle.n2_watch.specs.World.{World, shared, transferred}
+use Rattle.n2_front.specs.Front.{Front}
+use Rattle.n2_front.specs.Tasks as tasks
+use Rattle.n2_front.specs.Retire.{acted, who, done, done_past}
+use Rattle.n2_flat.specs.State.{CoreState, CommonState, IsAt, IsWatched, common_after, acted_by, posted_region, guard_written, owned_if, event_noted, with_event}
+use Rattle.n2_flat.proofs.Noted.{core_with, has_slots}
+use Rattle.n2_flat.proofs.Alone.{past_reaches}
+use Rattle.n2_flat.proofs.Shared.{shared_done, write_reply}
+use Rattle.n2_flat.proofs.Guarded.{wrote_stands, wrote_past, wrote_world, watched_after}
+use Rattle.n2_flat.proofs.cores.FlatCore.store_guarded.Goals as goal
+
+pub transfer-reply-requires : goal.transfer-reply-requires
+transfer-reply-requires c =
+    let m = c.requires.at.common.map_of in
+    let r = past_reaches c.args.board.now c.args.layout.now (who c.args.board.now c.args.k c.args.self.now.front c.args.common.now.world.book) c.args.address true c.args.value Word c.requires.unbroken in
+    let p = c.what_passes_is_proper.ensures.write c.args.board.now m.images c.args.k c.args.address Word c.args.value (direction true) r.0 c.requires.at.core c.requires.aligned (subst (λ (x : AddressMap). data_target x c.args.k c.args.address Word Bypassing (direction true) ≡ Ok r.0) m.maps r.1) in
+    subst (λ (x : Wiring). IsTrue (proper x c.args.k (Write c.args.low Word c.args.value))) (sym c.requires.at.common.wiring)
+    (subst (λ (l : ℕ). IsTrue (proper (wiring_of c.args.board.now) c.args.k (Write l Word c.args.value))) (sym c.requires.low) p)
+
+
+pub returns-clause-done : goal.returns-clause-done
+returns-clause-done c =
+    let i = c.self.inside in
+    let own : CoreState = core_with i.regs i.stop i.past i.watch in
+    let at : IsAt c.args.board.now c.args.layout.now c.args.k c.args.common.now own = subst (λ (s : CoreState). IsAt c.args.board.now c.args.layout.now c.args.k c.args.common.now s) (sym c.self.view_is) c.requires.at in
+    let br = subst (λ (s : CoreState). breach c.args.board.now c.args.layout.now (who c.args.board.now c.args.k s.front c.args.common.now.world.book) (Bypass c.args.address true c.args.value) Word ≡ None) (sym c.self.view_is) c.requires.unbroken in
+    let w = c.args.common.now.world in
+    let t = transferred c.args.board.now c.args.layout.now c.args.k w (Write c.args.low Word c.args.value) in
+    let reply : c.transfer-reply.result ≡ t.reply = c.transfer-reply.ensures.reply ∙ ap (λ (x : Wiring). (served x c.args.k (shared w) (Write c.args.low Word c.args.value)).reply) at.common.wiring ∙ sym (write_reply c.args.board.now c.args.layout.now c.args.k w c.args.low c.args.value c.args.part c.args.offset c.requires.there) in
+    let stands = wrote_stands c.args.board.now c.args.layout.now c.args.k c.args.common.now own at c.args.address c.args.low c.requires.low c.args.part c.args.offset c.requires.there c.args.value br c.note.new.self c.transfer-reply.result.took (c.note.ensures.wrote c.args.board.now at.common.map_of.images w i.past c.args.address c.args.value c.transfer-reply.result.took refl) (ap (λ (x : Reply). x.took) reply) in
+    let guard = c.guard_written-guard.ensures ∙ ap (λ (r : Option ℕ). guard_written c.args.part.kind c.args.part.index c.args.offset r) (c.posted_region-region.ensures ∙ ap (λ (r : Option ℕ). posted_region c.args.part.kind c.args.offset r) c.region_at.ensures) in
+    let past = c.settle.ensures _ i.past c.in_ok-push.ensures.ok ∙ ap (λ (x : Bool). with_event (event_noted c.guard_written-guard.result x c.owns-after.result) i.past) c.owns-before.ensures ∙ ap (λ (x : Bool). with_event (event_noted c.guard_written-guard.result (owned_if i.watch c.guard_written-guard.result) x) i.past) c.owns-after.ensures ∙ wrote_past c.args.board.now c.args.layout.now c.args.k c.args.common.now own at c.args.address c.args.low c.requires.low c.args.part c.args.offset c.requires.there c.args.value br c.note.new.self c.guard_written-guard.result stands guard in
+    let world = wrote_world c.args.board.now c.args.layout.now c.args.k c.args.common.now own at c.args.address c.args.low c.requires.low c.args.part c.args.offset c.requires.there c.args.value br c.transfer-reply.new.self c.hold.new.self c.taken.result c.transfer-reply.result c.requires.kind c.transfer-reply.ensures.after c.hold.ensures (c.taken.ensures ∙ ap (λ (r : Option ℕ). if c.transfer-reply.result.took then r else None) (c.posted_region-region.ensures ∙ ap (λ (r : Option ℕ). posted_region c.args.part.kind c.args.offset r) c.region_at.ensures)) c.transfer-reply.ensures.reply in
+    let task = tasks.StorePast c.args.address Word c.args.value in
+    subst (λ (s : CoreState). acted (record { regs = c.latch_lines.new.self; stop = i.stop; past = c.settle.new.self }) c.hold.new.self.world ≡ done_past c.args.board.now c.args.layout.now c.args.k s.front w task (Write (without_bypass c.args.address) Word c.args.value) (transferred c.args.board.now c.args.layout.now c.args.k w (Write (without_bypass c.args.address) Word c.args.value))) c.self.view_is
+    (shared_done c.args.board.now c.args.layout.now c.args.k own.front w task (Write c.args.low Word c.args.value) c.latch_lines.new.self c.settle.new.self c.transfer-reply.result c.hold.new.self.world
+    (c.latch_lines.ensures ∙ ap (λ (x : Regs). latched x c.transfer-reply.result.lines) c.advance.ensures) reply world past
+    ∙ ap (λ (l : ℕ). done_past c.args.board.now c.args.layout.now c.args.k own.front w task (Write l Word c.args.value) (transferred c.args.board.now c.args.layout.now c.args.k w (Write l Word c.args.value))) c.requires.low)
+
+pub returns-clause-watched : goal.returns-clause-watched
+returns-clause-watched c =
+    let i = c.self.inside in
+    let own : CoreState = core_with i.regs i.stop i.past i.watch in
+    let at : IsAt c.args.board.now c.args.layout.now c.args.k c.args.common.now own = subst (λ (s : CoreState). IsAt c.args.board.now c.args.layout.now c.args.k c.args.common.now s) (sym c.self.view_is) c.requires.at in
+    let br = subst (λ (s : CoreState). breach c.args.board.now c.args.layout.now (who c.args.board.now c.args.k s.front c.args.common.now.world.book) (Bypass c.args.address true c.args.value) Word ≡ None) (sym c.self.view_is) c.requires.unbroken in
+    let w = c.args.common.now.world in
+    let t = transferred c.args.board.now c.args.layout.now c.args.k w (Write c.args.low Word c.args.value) in
+    let reply : c.transfer-reply.result ≡ t.reply = c.transfer-reply.ensures.reply ∙ ap (λ (x : Wiring). (served x c.args.k (shared w) (Write c.args.low Word c.args.value)).reply) at.common.wiring ∙ sym (write_reply c.args.board.now c.args.layout.now c.args.k w c.args.low c.args.value c.args.part c.args.offset c.requires.there) in
+    let stands = wrote_stands c.args.board.now c.args.layout.now c.args.k c.args.common.now own at c.args.address c.args.low c.requires.low c.args.part c.args.offset c.requires.there c.args.value br c.note.new.self c.transfer-reply.result.took (c.note.ensures.wrote c.args.board.now at.common.map_of.images w i.past c.args.address c.args.value c.transfer-reply.result.took refl) (ap (λ (x : Reply). x.took) reply) in
+    let guard = c.guard_written-guard.ensures ∙ ap (λ (r : Option ℕ). guard_written c.args.part.kind c.args.part.index c.args.offset r) (c.posted_region-region.ensures ∙ ap (λ (r : Option ℕ). posted_region c.args.part.kind c.args.offset r) c.region_at.ensures) in
+    let past = c.settle.ensures _ i.past c.in_ok-push.ensures.ok ∙ ap (λ (x : Bool). with_event (event_noted c.guard_written-guard.result x c.owns-after.result) i.past) c.owns-before.ensures ∙ ap (λ (x : Bool). with_event (event_noted c.guard_written-guard.result (owned_if i.watch c.guard_written-guard.result) x) i.past) c.owns-after.ensures ∙ wrote_past c.args.board.now c.args.layout.now c.args.k c.args.common.now own at c.args.address c.args.low c.requires.low c.args.part c.args.offset c.requires.there c.args.value br c.note.new.self c.guard_written-guard.result stands guard in
+    let world = wrote_world c.args.board.now c.args.layout.now c.args.k c.args.common.now own at c.args.address c.args.low c.requires.low c.args.part c.args.offset c.requires.there c.args.value br c.transfer-reply.new.self c.hold.new.self c.taken.result c.transfer-reply.result c.requires.kind c.transfer-reply.ensures.after c.hold.ensures (c.taken.ensures ∙ ap (λ (r : Option ℕ). if c.transfer-reply.result.took then r else None) (c.posted_region-region.ensures ∙ ap (λ (r : Option ℕ). posted_region c.args.part.kind c.args.offset r) c.region_at.ensures)) c.transfer-reply.ensures.reply in
+    watched_after c.args.board.now c.args.layout.now c.args.k c.hold.new.self.world t.world c.latch_lines.new.self i.stop c.settle.new.self _ c.note.new.self world past stands

@@ -10,3 +10,4 @@ pub mod Alone
 pub mod Fetched
 pub mod Aligned
 pub mod Whole
+pub mod Started

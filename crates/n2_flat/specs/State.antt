@@ -1,7 +1,9 @@
 -- What the flat machine keeps, beside what the definition has, and when it is whole.
 use Rattle.std.specs.Prelude.{◌≡◌, ℕ, ◌%◌, ◌≤◌, ◌<◌, List, [], ◌∷◌, length, map, Bool, true, false, not, ◌==◌, if◌then◌else◌, IsTrue, Option, Some, None, option_map, slice_get, get_or}
 use Rattle.n2_exec.specs.declared.registers.Regs.{Regs}
+use Rattle.n2_elf.specs.declared.image.Image.{Image}
 use Rattle.n2_parts.specs.declared.board.Board.{Board}
+use Rattle.n2_parts.specs.declared.board.CoreRow.{CoreRow}
 use Rattle.n2_parts.specs.declared.board.PartKind.{PartKind}
 use Rattle.n2_parts.specs.declared.board.PartKind.TheVariants as kinds
 use Rattle.n2_parts.specs.declared.stops.Stop.{Stop}
@@ -17,7 +19,7 @@ use Rattle.n2_bus.specs.declared.request.Reply.{Reply}
 use Rattle.n2_watch.specs.declared.past.Past.{Past}
 use Rattle.n2_watch.specs.declared.past.Past.TheVariants.{Got, Gave}
 use Rattle.n2_watch.specs.Discipline.{Breach}
-use Rattle.n2_watch.specs.Book.{Book, region_at}
+use Rattle.n2_watch.specs.Book.{Book, start_book, region_at}
 use Rattle.n2_watch.specs.World.{World, shared}
 use Rattle.n2_watch.specs.Kept.{IsKept, IsPosted}
 use Rattle.n2_watch.specs.Shapes.{HasWorldShape}
@@ -26,7 +28,7 @@ use Rattle.n2_watch.specs.Table.{slot_of}
 use Rattle.n2_board.specs.declared.guards.Guard.{Guard}
 use Rattle.n2_board.specs.declared.guards.Guard.TheVariants as guard_kinds
 use Rattle.n2_board.specs.declared.guards.Holder.{Holder}
-use Rattle.n2_front.specs.Front.{Front}
+use Rattle.n2_front.specs.Front.{Front, started_front}
 use Rattle.n2_front.specs.Tasks.{stop_for}
 use Rattle.n2_front.specs.Retire.{Acted, acted}
 use Rattle.n2_runs.specs.FlatRun.{Flat}
@@ -101,6 +103,15 @@ pub record IsWhole (map' : AddressMap) (s : State) : Type 0 where
   pub kept : IsKept s.board map' s.common.world.book (map past_of s.cores)
   pub watched : (k : ℕ) (c : CoreState) → slice_get s.cores k ≡ Some c → IsWatched s.board map' k s.common.world.book c
   pub aligned : (k : ℕ) (c : CoreState) → slice_get s.cores k ≡ Some c → IsAligned c.front.regs
+
+-- core k of a board at the start
+pub record IsStarted (b : Board) (images : List Image) (map : AddressMap) (k : ℕ) (c : CoreState) : Type 0 where
+  pub row : CoreRow
+  pub image : Image
+  pub row_is : slice_get b.core k ≡ Some row
+  pub image_is : slice_get images k ≡ Some image
+  pub front : c.front ≡ started_front row image
+  pub stands : StandsFor b map k c.watch (start_book b) []
 
 -- the act's core is there, or the event is one of the board's
 abbrev pub IsActOf : Board → Act → Type 0

@@ -8,9 +8,11 @@ mod common;
 mod cores;
 mod events;
 mod machine;
+mod opening;
 mod retire;
 mod tasks;
 
 pub use board::plain_board;
+pub use machine::Flat;
 pub use n2_board::{Kind, Refusal, Stop};
 pub use n2_watch::Past;

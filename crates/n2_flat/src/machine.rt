@@ -25,9 +25,9 @@ use std::marker::Model;
 /// The flat machine: a board's memories and devices without caches, and its cores.
 #[derive(Drop)]
 pub struct Flat {
-    board: Board,
-    common: Common,
-    cores: Vec<FlatCore>,
+    pub(crate) board: Board,
+    pub(crate) common: Common,
+    pub(crate) cores: Vec<FlatCore>,
 }
 
 impl Model for Flat {

@@ -5,7 +5,7 @@ ghost use Rattle.n2_word.specs.declared.Width.TheVariants.{Word};
 ghost use Rattle.n2_word.specs.Words.{is_aligned};
 ghost use Rattle.n2_word.specs.Lines.{line as line_number};
 ghost use Rattle.n2_parts.specs.MemoryLines.{HasLine};
-ghost use Rattle.n2_memory.specs.Memories.{read_at};
+ghost use Rattle.n2_memory.specs.Memories.{read_at, line_at};
 ghost use Rattle.n2_bus.specs.Wiring.{wiring_of, proper};
 ghost use Rattle.n2_bus.specs.Transfer.{request_for};
 ghost use Rattle.n2_watch.specs.World.{transferred};
@@ -73,6 +73,7 @@ impl Flat {
         requires core { k < length self.old.board.core }
         ensures done { OnOk result (machine_of self.new ≡ acted_by self.old.board layout.now (machine_of self.old) (Act.Retire k)) }
         ensures same { OnErr result (self.new ≡ self.old) }
+        ensures board { self.new.board ≡ self.old.board }
         ensures whole { IsWhole layout.now self.new }
     {
         let core = &mut self.cores[k as usize];
@@ -87,6 +88,7 @@ impl Flat {
         requires whole { IsWhole layout.now self.old }
         requires core { k < length self.old.board.core }
         ensures done { machine_of self.new ≡ acted_by self.old.board layout.now (machine_of self.old) (Act.Sample k) }
+        ensures board { self.new.board ≡ self.old.board }
         ensures whole { IsWhole layout.now self.new }
     {
         let core = &mut self.cores[k as usize];
@@ -101,6 +103,7 @@ impl Flat {
         requires whole { IsWhole layout.now self.old }
         requires proper { IsTrue (proper (wiring_of self.old.board) (length self.old.board.core) (request_for event)) }
         ensures done { machine_of self.new ≡ acted_by self.old.board layout.now (machine_of self.old) (Act.Device event) }
+        ensures board { self.new.board ≡ self.old.board }
         ensures whole { IsWhole layout.now self.new }
     {
         let actor = self.board.core.len() as u32;
@@ -114,6 +117,7 @@ impl Flat {
         requires there { IsActOf self.old.board act.now }
         ensures done { OnOk result (machine_of self.new ≡ acted_by self.old.board layout.now (machine_of self.old) act.now) }
         ensures same { OnErr result (self.new ≡ self.old) }
+        ensures board { self.new.board ≡ self.old.board }
         ensures whole { IsWhole layout.now self.new }
     {
         match *act {
@@ -167,6 +171,14 @@ impl Flat {
         ensures { result ≡ read_at self.now.common.world.memory address Word }
     {
         self.common.word(address)
+    }
+
+    /// The eight words of a line of a memory.
+    pub fn line(&self, line: u32) -> [u32; 8]
+        requires { HasLine self.now.common.wiring.memories line }
+        ensures { result ≡ line_at self.now.common.world.memory line }
+    {
+        self.common.bus.line(line)
     }
 
     /// The bytes that writes put into the queue of a UART.

@@ -1,6 +1,5 @@
 -- What is refused: the statuses and the rows that are written.
 use Rattle.std.specs.Prelude.{ℕ, List, [], ◌∷◌, ◌++◌, codes, decimal}
-use Rattle.n2_text.specs.Fields.{word_text}
 use Rattle.n2_elf.specs.Names.{fault_text}
 use Rattle.n2_boardtext.specs.Rows.{fault_text as board_text}
 use Rattle.n2_board.specs.declared.placement.OpenFault.{OpenFault}
@@ -10,7 +9,7 @@ use Rattle.n2_journal.specs.declared.journal.JournalFault.TheVariants as journal
 use Rattle.n2_inputs.specs.declared.refusal.Role.{Role}
 use Rattle.n2_inputs.specs.declared.refusal.Role.TheVariants as roles
 use Rattle.n2_inputs.specs.declared.refusal.Refusal.{Refusal}
-use Rattle.n2_inputs.specs.declared.refusal.Refusal.TheVariants.{Usage, UnbuiltCommand, UnbuiltWord, Absent, TooLong, BoardText, Image, Misfit, OrderRow, JournalText, JournalWrong}
+use Rattle.n2_inputs.specs.declared.refusal.Refusal.TheVariants.{Usage, UnbuiltCommand, Absent, TooLong, BoardText, Image, Misfit, OrderRow, JournalText, JournalWrong}
 
 -- a file has at most so many bytes
 abbrev pub limit_of : Role → ℕ
@@ -39,7 +38,6 @@ role_status roles.Order = 11
 abbrev pub status_of : Refusal → ℕ
 status_of Usage = 3
 status_of UnbuiltCommand = 12
-status_of (UnbuiltWord pc word) = 12
 status_of (Absent role) = role_status role
 status_of (TooLong role) = role_status role
 status_of (BoardText fault) = 4
@@ -51,10 +49,6 @@ status_of (JournalWrong row) = 9
 
 unfoldable pub usage : List ℕ
 usage = codes "usage: n2_tool plain FILE STEPS | step BOARD ORDER | replay BOARD JOURNAL | flat BOARD JOURNAL | asm FILE | asmhal FILE | dis FILE | bench N"
-
--- two words behind a name
-abbrev pub words_text : List ℕ → ℕ → ℕ → List ℕ
-words_text name a b = name ++ word_text a ++ codes " " ++ word_text b
 
 -- what is wrong with a file
 abbrev pub file_text : Role → List ℕ → List ℕ
@@ -87,7 +81,6 @@ journal_text journals.NoMemory = file_text roles.Journal (codes "nomemory")
 unfoldable pub text_of : Refusal → List ℕ
 text_of Usage = usage
 text_of UnbuiltCommand = codes "unbuilt command"
-text_of (UnbuiltWord pc word) = words_text (codes "unbuilt word ") pc word
 text_of (Absent role) = file_text role (codes "absent")
 text_of (TooLong role) = file_text role (codes "too long")
 text_of (BoardText fault) = board_text fault

@@ -55,8 +55,6 @@ pub enum Refusal {
     Usage,
     /// The command is not built yet.
     UnbuiltCommand,
-    /// A run came to an access that is not built yet: the program counter and the instruction.
-    UnbuiltWord { pc: u32, word: u32 },
     /// No file has the name.
     Absent(Role),
     /// The file is longer than its limit.
@@ -87,7 +85,7 @@ impl Refusal {
             Refusal::Image(_, _) | Refusal::Misfit(_) => 5,
             Refusal::JournalText(_) | Refusal::JournalWrong(_) => 9,
             Refusal::OrderRow(_) => 11,
-            Refusal::UnbuiltCommand | Refusal::UnbuiltWord { .. } => 12,
+            Refusal::UnbuiltCommand => 12,
         }
     }
 }

@@ -8,7 +8,7 @@ use crate::refusal::{Refusal, Role};
 use n2_board::OpenFault;
 use n2_elf::{ElfFault, put_fault};
 use n2_journal::JournalFault;
-use n2_text::{put_number, put_text, put_word};
+use n2_text::{put_number, put_text};
 use n2_word::NoMemory;
 
 fn put_image(out: &mut Vec<u8>, core: u32) -> Result<(), NoMemory>
@@ -89,15 +89,6 @@ fn put_usage(out: &mut Vec<u8>) -> Result<(), NoMemory>
     )
 }
 
-fn put_words(out: &mut Vec<u8>, name: &[u8], a: u32, b: u32) -> Result<(), NoMemory>
-    ensures { OnOk result (out.new.items ≡ out.old.items ++ spec.words_text name.now a b) }
-{
-    put_text(out, name)?;
-    put_word(out, a)?;
-    put_text(out, b" ")?;
-    put_word(out, b)
-}
-
 /// Appends a row of a file, as `order row 3`.
 fn put_file_row(out: &mut Vec<u8>, role: Role, name: &[u8], row: u64) -> Result<(), NoMemory>
     ensures { OnOk result (out.new.items ≡ out.old.items ++ spec.row_text role name.now row) }
@@ -125,7 +116,6 @@ fn put_refusal(out: &mut Vec<u8>, refusal: &Refusal) -> Result<(), NoMemory>
     match refusal {
         Refusal::Usage => put_usage(out),
         Refusal::UnbuiltCommand => put_text(out, b"unbuilt command"),
-        Refusal::UnbuiltWord { pc, word } => put_words(out, b"unbuilt word ", *pc, *word),
         Refusal::Absent(role) => put_file(out, *role, b"absent"),
         Refusal::TooLong(role) => put_file(out, *role, b"too long"),
         Refusal::BoardText(fault) => n2_boardtext::put_fault(out, fault),

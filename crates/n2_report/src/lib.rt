@@ -4,12 +4,14 @@
 
 mod ends;
 mod flat;
+mod of_flat;
 mod report;
 mod stops;
 mod transfers;
 
 pub use ends::{CoreEnd, MemoryLine, UartEnd};
 pub use flat::flat_text;
+pub use of_flat::flat_report;
 pub use report::report_text;
 pub use stops::status;
 pub use transfers::Transfers;

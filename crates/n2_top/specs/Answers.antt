@@ -1,7 +1,6 @@
 -- What the tool answers: a status, what the journal grows by, and what is written to `out`.
 use Rattle.std.specs.Prelude.{◌≡◌, ℕ, List, [], Option, Some, Bool, false, Result, Ok, Err, nat_lt, ◌||◌, ◌⊎◌, codes}
 use Rattle.n2_outside.specs.Files.{Files, file_at}
-use Rattle.n2_flat.specs.Machine.{plain}
 use Rattle.n2_top.specs.declared.answers.Answer.{Answer}
 use Rattle.n2_inputs.specs.declared.refusal.Refusal.{Refusal}
 use Rattle.n2_inputs.specs.declared.refusal.Refusal.TheVariants.{Usage, UnbuiltCommand}
@@ -9,7 +8,7 @@ use Rattle.n2_top.specs.Commands.{Command, Faulty, Unbuilt, Plain, command_of, r
 use Rattle.n2_inputs.specs.Refusals.{status_of, row_of}
 use Rattle.n2_inputs.specs.Files.{◌>>=◌}
 use Rattle.n2_top.specs.Asked.{Asked, PlainRun}
-use Rattle.n2_top.specs.Plain.{asked_plain, plain_answer}
+use Rattle.n2_top.specs.Plain.{asked_plain, plain_run, plain_answer}
 
 -- what a command asks of some files
 abbrev pub asked_of : Command → Files → Result Asked Refusal
@@ -19,7 +18,7 @@ asked_of (Plain file steps) files = asked_plain (file_at files file) steps
 
 -- what is answered to what is asked
 abbrev pub answered : Asked → Result Answer Refusal
-answered (PlainRun image steps) = plain_answer (plain image steps)
+answered (PlainRun image steps) = Ok (plain_answer (plain_run image steps))
 
 -- the answer to a command, or the first refusal
 abbrev pub reply_to : Command → Files → Result Answer Refusal

@@ -2,4 +2,3 @@ pub mod Commands
 pub mod Asked
 pub mod Plain
 pub mod Answers
-pub mod Calls

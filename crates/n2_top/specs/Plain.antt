@@ -1,16 +1,16 @@
 -- `plain FILE STEPS`: what is asked, and what its run answers.
-use Rattle.std.specs.Prelude.{ℕ, List, [], ◌∷◌, Option, Result, Ok, Err}
+use Rattle.std.specs.Prelude.{ℕ, List, [], ◌∷◌, map, replicate, Option, Result}
 use Rattle.n2_board.specs.Placement.{open_fault}
-use Rattle.n2_flat.specs.declared.machine.PlainEnd.{PlainEnd}
-use Rattle.n2_flat.specs.declared.machine.PlainFault.{PlainFault}
-use Rattle.n2_flat.specs.declared.machine.PlainFault.TheVariants.{Unbuilt, NoMemory}
-use Rattle.n2_flat.specs.PlainBoard.{plain_board, plain_uart}
+use Rattle.n2_elf.specs.declared.image.Image.{Image}
+use Rattle.n2_parts.specs.declared.stops.Act.TheVariants.{Retire}
+use Rattle.n2_front.specs.Front.{Front}
+use Rattle.n2_runs.specs.FlatRun.{Flat, flat_start, flat}
+use Rattle.n2_flat.specs.PlainBoard.{plain_board, plain_map}
 use Rattle.n2_report.specs.Stops.{status_of}
-use Rattle.n2_report.specs.Flat.{flat_text}
+use Rattle.n2_report.specs.OfFlat.{flat_report}
 use Rattle.n2_top.specs.declared.answers.Answer.{Answer}
 use Rattle.n2_inputs.specs.declared.refusal.Role.TheVariants as roles
 use Rattle.n2_inputs.specs.declared.refusal.Refusal.{Refusal}
-use Rattle.n2_inputs.specs.declared.refusal.Refusal.TheVariants.{UnbuiltWord}
 use Rattle.n2_inputs.specs.Files.{◌>>=◌, file_of}
 use Rattle.n2_inputs.specs.Boards.{image_of, image_in, fitting}
 use Rattle.n2_top.specs.Asked.{Asked, PlainRun}
@@ -22,13 +22,14 @@ asked_plain file steps = do
   image ← image_in 0 (image_of bytes 0)
   fitting (open_fault plain_board (image ∷ [])) (PlainRun image steps)
 
--- where the core stands at the end, as text
-abbrev pub plain_text : PlainEnd → List ℕ
-plain_text end =
-    flat_text (record { regs = end.regs; stop = end.stop } ∷ []) (record { name = plain_uart.name; sent = end.sent } ∷ []) []
+-- the flat machine of the plain board with an image
+unfoldable pub plain_start : Image → Flat
+plain_start image = flat_start plain_board (image ∷ [])
 
--- the answer of a run on the plain board, which never wants memory
-abbrev pub plain_answer : Result PlainEnd PlainFault → Result Answer Refusal
-plain_answer (Ok end) = Ok (record { status = status_of (end.stop ∷ []); journal = []; report = plain_text end })
-plain_answer (Err (Unbuilt pc word)) = Err (UnbuiltWord pc word)
-plain_answer (Err NoMemory) = Ok (record { status = 8; journal = []; report = [] })
+-- after so many acts of its one core
+abbrev pub plain_run : Image → ℕ → Flat
+plain_run image steps = flat plain_board (plain_map image) (plain_start image) (replicate steps (Retire 0))
+
+-- the answer of a run on the plain board
+abbrev pub plain_answer : Flat → Answer
+plain_answer m = record { status = status_of (map (λ (f : Front). f.stop) m.cores); journal = []; report = flat_report plain_board m }

@@ -1,26 +1,29 @@
 //! `plain FILE STEPS`: an image on the plain board, without caches.
 
-ghost use Rattle.std.specs.Prelude.{◌≡◌, ◌<◌, ℕ, ◌∷◌, [], Some, None, IfOk};
+ghost use Rattle.std.specs.Prelude.{◌≡◌, ◌<◌, ℕ, ◌∷◌, [], Some, None, IfOk, OnOk, length, replicate};
 ghost use Rattle.n2_outside.specs.Files.{Files, file_at};
 ghost use Rattle.n2_elf.specs.Reading.{IsSized};
 ghost use Rattle.n2_board.specs.Placement.{open_fault};
 ghost use Rattle.n2_flat.specs.PlainBoard.{plain_board, plain_map};
-ghost use Rattle.n2_flat.specs.Machine.{plain};
+ghost use Rattle.n2_parts.specs.declared.stops.Act.TheVariants.{Retire};
+ghost use Rattle.n2_bus.specs.Wiring.{wiring_of};
+ghost use Rattle.n2_runs.specs.FlatRun.{flat as after_acts};
+ghost use Rattle.n2_flat.specs.State.{IsWhole, machine_of};
 ghost use Rattle.n2_top.specs.Commands.{Plain};
 ghost use Rattle.n2_top.specs.Asked.{PlainRun};
-ghost use Rattle.n2_top.specs.Plain.{asked_plain, plain_answer};
+ghost use Rattle.n2_top.specs.Plain.{asked_plain, plain_run, plain_answer};
 ghost use Rattle.n2_top.specs.Answers.{reply_to};
-ghost use Rattle.n2_top.specs.Calls.{unbuilt_of};
-ghost use Rattle.n2_inputs.specs.Calls.{Gives, LeavesFolder, ReadFails};
+ghost use Rattle.n2_inputs.specs.Calls.{Gives, LeavesFolder};
 
 use crate::answers::Answer;
-use n2_board::Layout;
+use n2_board::{Act, Layout};
 use n2_elf::Image;
-use n2_flat::{PlainFault, plain_board, plain_run};
-use n2_inputs::{Failure, NoAnswer, Refusal, Role, fetch_file, image_in};
+use n2_flat::{Flat, plain_board};
+use n2_inputs::{Failure, Role, fetch_file, image_in};
 use n2_outside::Folder;
-use n2_report::{CoreEnd, UartEnd, flat_text, status};
+use n2_report::{flat_report, status};
 use n2_text::Items;
+use n2_word::NoMemory;
 use std::alloc::Global;
 use std::slice;
 
@@ -28,24 +31,12 @@ use std::slice;
 const CORE: u32 = 0;
 /// Where a file that is no ELF file is loaded.
 const AT: u32 = 0;
-/// The name of the plain board's UART.
-const UART: &str = "u0";
 
 /// An image that fits the plain board, and the layout of the board with it.
 #[derive(Drop)]
 struct Fitting {
     image: Image,
     layout: Layout,
-}
-
-/// Why a run has no end.
-fn failure_of(fault: PlainFault) -> Failure
-    ensures { result ≡ unbuilt_of fault }
-{
-    match fault {
-        PlainFault::Unbuilt { pc, word } => Failure::Refused(Refusal::UnbuiltWord { pc, word }),
-        PlainFault::NoMemory => Failure::NoAnswer(NoAnswer::NoMemory),
-    }
 }
 
 /// The image of a file, where it fits the plain board.
@@ -64,31 +55,38 @@ fn ask<F: Folder>(alloc: Global, file: &str, folder: &mut F) -> Result<Fitting, 
     Ok(Fitting { image, layout })
 }
 
+/// The flat machine after so many acts of its core, or up to the core's stop.
+fn run(flat: &mut Flat, layout: &Layout, steps: u32) -> Result<(), NoMemory>
+    requires whole { IsWhole layout.now flat.old }
+    requires board { flat.old.board ≡ plain_board }
+    requires core { length flat.old.cores ≡ 1 }
+    ensures memories { flat.new.common.wiring ≡ wiring_of plain_board }
+    ensures core { length flat.new.cores ≡ 1 }
+    ensures acts { OnOk result (machine_of flat.new ≡ after_acts plain_board layout.now (machine_of flat.old) (replicate steps (Retire 0))) }
+{
+    for step in 0..steps {
+        if flat.stop(CORE).is_some() {
+            return Ok(());
+        }
+        flat.act(layout, &Act::Retire(CORE))?;
+    }
+    Ok(())
+}
+
 /// The answer of its run.
-fn run(alloc: Global, asked: &Fitting, steps: u32) -> Result<Answer, Failure>
+fn answer(alloc: Global, asked: &Fitting, steps: u32) -> Result<Answer, NoMemory>
     requires sized { IsSized asked.now.image }
     requires fits { open_fault plain_board (asked.now.image ∷ []) ≡ None }
     requires opened { asked.now.layout ≡ plain_map asked.now.image }
-    ensures answer { Gives (λ a. a) (plain_answer (plain asked.now.image steps)) result }
-    ensures unread { ¬ ReadFails result }
-    ensures journal { IfOk result (λ a. a.journal ≡ []) }
+    ensures answer { IfOk result (λ a. a ≡ plain_answer (plain_run asked.now.image steps)) }
     ensures status { IfOk result (λ a. a.status < 3) }
 {
-    let end = match plain_run(alloc, &asked.image, &asked.layout, steps) {
-        Ok(end) => end,
-        Err(fault) => return Err(failure_of(fault)),
-    };
-    let core = CoreEnd {
-        regs: end.regs,
-        stop: end.stop,
-    };
-    let uart = UartEnd {
-        name: UART,
-        sent: end.sent.as_slice(),
-    };
-    let report = flat_text(alloc, slice::from_ref(&core), slice::from_ref(&uart), &[])?;
+    let board = plain_board(alloc)?;
+    let mut flat = Flat::open(alloc, &board, slice::from_ref(&asked.image), &asked.layout)?;
+    run(&mut flat, &asked.layout, steps)?;
+    let report = flat_report(alloc, &board, &flat)?;
     Ok(Answer {
-        status: status(slice::from_ref(&end.stop)),
+        status: status(&[flat.stop(CORE)]),
         journal: Items::new(alloc),
         report: Items::from_vec(report),
     })
@@ -107,5 +105,5 @@ pub fn answer_plain<F: Folder>(
     ensures status { IfOk result (λ a. a.status < 3) }
 {
     let asked = ask(alloc, file, folder)?;
-    run(alloc, &asked, steps)
+    Ok(answer(alloc, &asked, steps)?)
 }

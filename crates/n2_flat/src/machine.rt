@@ -1,10 +1,11 @@
 //! The flat machine.
 
-ghost use Rattle.std.specs.Prelude.{◌≡◌, ◌<◌, ℕ, IsTrue, OnOk, OnErr, IfOk, Some, None, [], length, slice_get, slice_set, reverse, get_or};
+ghost use Rattle.std.specs.Prelude.{◌≡◌, ◌↔◌, ◌<◌, ℕ, IsTrue, OnOk, OnErr, IfOk, Some, None, [], length, slice_get, slice_set, reverse, get_or};
 ghost use Rattle.n2_word.specs.declared.Width.TheVariants.{Word};
 ghost use Rattle.n2_word.specs.Words.{is_aligned};
 ghost use Rattle.n2_word.specs.Lines.{line as line_number};
 ghost use Rattle.n2_parts.specs.MemoryLines.{HasLine};
+ghost use Rattle.n2_parts.specs.Valid.{IsValid};
 ghost use Rattle.n2_memory.specs.Memories.{read_at, line_at};
 ghost use Rattle.n2_bus.specs.Wiring.{wiring_of, proper};
 ghost use Rattle.n2_bus.specs.Transfer.{request_for};
@@ -108,6 +109,29 @@ impl Flat {
     {
         let actor = self.board.core.len() as u32;
         let _ = self.common.transfer(actor, &request_for(event));
+    }
+
+    /// Whether an act is of a core, a UART or the timers of the board.
+    pub fn has_act(&self, act: &Act) -> bool
+        requires valid { IsValid self.now.board }
+        requires wiring { self.now.common.wiring ≡ wiring_of self.now.board }
+        ensures { IsTrue result ↔ IsActOf self.now.board act.now }
+    {
+        match *act {
+            Act::Retire(k) => (k as usize) < self.board.core.len(),
+            Act::Sample(k) => (k as usize) < self.board.core.len(),
+            Act::Device(event) => self.is_event(event),
+        }
+    }
+
+    fn is_event(&self, event: DeviceEvent) -> bool
+        requires valid { IsValid self.now.board }
+        requires wiring { self.now.common.wiring ≡ wiring_of self.now.board }
+        ensures { result ≡ proper (wiring_of self.now.board) (length self.now.board.core) (request_for event) }
+    {
+        n2_parts::laws::valid_boards();
+        let actor = self.board.core.len() as u32;
+        self.common.bus.proper(actor, &request_for(event))
     }
 
     /// Makes an act. After want of memory nothing has changed.

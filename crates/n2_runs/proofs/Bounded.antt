@@ -25,7 +25,8 @@ use Rattle.n2_runs.specs.Replay.{added, quiet_turn, quiet_turns}
 use Rattle.n2_runs.proofs.Lists.{set_each, slice_get-set_same}
 use Rattle.n2_runs.proofs.Begins.{as_many}
 use Rattle.n2_runs.proofs.Views.{quiet_by, quiet, turn_cases}
-use Rattle.n2_runs.proofs.Ahead.{get_next, same_some}
+use Rattle.n2_runs.proofs.Quiets.{get_next}
+use Rattle.n2_runs.proofs.Ahead.{same_some}
 use Rattle.n2_runs.proofs.Counted.{count_turn, count_run}
 use Rattle.n2_runs.proofs.Compared.{none_some, true_false, then_ok, quiet_if}
 

@@ -11,7 +11,8 @@ use Rattle.n2_runs.specs.Recorded.{actors_in}
 use Rattle.n2_runs.specs.Same.{same_request, same_entry}
 use Rattle.n2_runs.specs.Replay.{and_then, added, if_quiet, quiet_turn, quiet_turns, if_same, entry_turn, Differs, at_row, entry_row, entry_rows, if_stopped, tail_row, end_row, if_last, if_core, tail_rows}
 use Rattle.n2_runs.proofs.Sames.{entry_is}
-use Rattle.n2_runs.proofs.Ahead.{get_next, append_nil, same_some, entry_turns, run-append, run-none, one_more}
+use Rattle.n2_runs.proofs.Quiets.{get_next, append_nil, run-append, run-none, one_more}
+use Rattle.n2_runs.proofs.Ahead.{same_some, entry_turns}
 use Rattle.n2_runs.proofs.Counted.{local_of, local_at, TurnIs, Over, Quiet, Enters, turn_is, count_run, others_run, tails_others}
 
 -- ---- tests

@@ -20,7 +20,7 @@ use Rattle.n2_runs.proofs.Sets.{within}
 use Rattle.n2_runs.proofs.Known.{entered_local}
 use Rattle.n2_runs.proofs.Books.{other_core}
 use Rattle.n2_runs.proofs.Views.{IsCoreAt, quiet, quiet_count, turn_cases}
-use Rattle.n2_runs.proofs.Ahead.{run-append, run-none}
+use Rattle.n2_runs.proofs.Quiets.{run-append, run-none}
 
 abbrev pub local_of : Option Core → ℕ
 local_of None = 0

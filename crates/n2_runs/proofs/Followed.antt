@@ -19,7 +19,8 @@ use Rattle.n2_runs.specs.Replay.{and_then, added, if_quiet, quiet_turn, quiet_tu
 use Rattle.n2_runs.proofs.Sames.{request_self, entry_self}
 use Rattle.n2_runs.proofs.Begins.{as_many}
 use Rattle.n2_runs.proofs.Books.{other_core}
-use Rattle.n2_runs.proofs.Ahead.{get_next, append_nil, same_some, fresh_started, groups_of, entry_turns, locals_of, run-append, run-none}
+use Rattle.n2_runs.proofs.Quiets.{get_next, append_nil, run-append, run-none}
+use Rattle.n2_runs.proofs.Ahead.{same_some, fresh_started, groups_of, entry_turns, locals_of}
 use Rattle.n2_runs.proofs.Counted.{local_of, local_at, TurnIs, Over, Quiet, Enters, turn_is, count_turn, count_run, others_run, tails_others, IsMore, run_more}
 use Rattle.n2_runs.proofs.Compared.{AreFresh, added_none, added_some, true_false, one_entry, fresh_after, WentEntries, all_entries, WentTails, all_tails}
 

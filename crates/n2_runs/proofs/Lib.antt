@@ -14,6 +14,7 @@ pub mod Known
 pub mod Books
 pub mod Stopped
 pub mod Views
+pub mod Quiets
 pub mod Ahead
 pub mod Sames
 pub mod Counted

@@ -10,7 +10,8 @@ use Rattle.n2_journal.specs.Journals.{Content, tail_turns}
 use Rattle.n2_runs.specs.Machine.{Machine, start, run, tails}
 use Rattle.n2_runs.specs.Recorded.{journal_of, actors_in, actors_of, Records}
 use Rattle.n2_runs.specs.Replay.{Differs, at_row, entry_row, entry_rows, tail_row, end_row, if_last, if_core, tail_rows, after_entries, replayed}
-use Rattle.n2_runs.proofs.Ahead.{append_nil, groups_of, entry_turns, run_replays}
+use Rattle.n2_runs.proofs.Quiets.{append_nil}
+use Rattle.n2_runs.proofs.Ahead.{groups_of, entry_turns, run_replays}
 use Rattle.n2_runs.proofs.Compared.{all_entries}
 use Rattle.n2_runs.proofs.Followed.{starts_fresh, count, follow_entries, replays_all}
 

@@ -1,7 +1,9 @@
 -- The journal of a run, the order that a journal tells, and which journals are those of finished runs.
-use Rattle.std.specs.Prelude.{◌≡◌, ℕ, List, replicate, IsTrue}
-use Rattle.std.specs.List.{flat_map}
+use Rattle.std.specs.Prelude.{◌≡◌, ℕ, ◌==◌, Bool, List, length, replicate, IsTrue}
+use Rattle.std.specs.List.{filter, flat_map}
 use Rattle.n2_parts.specs.declared.board.Board.{Board}
+use Rattle.n2_parts.specs.declared.stops.Act.{Act}
+use Rattle.n2_parts.specs.declared.stops.Act.TheVariants.{Retire, Sample, Device}
 use Rattle.n2_board.specs.AddressMap.{AddressMap}
 use Rattle.n2_journal.specs.Journals.{Content, order_of}
 use Rattle.n2_runs.specs.Machine.{Machine, run, is_finished, tails}
@@ -17,6 +19,15 @@ actors_in groups = flat_map (λ group. replicate group.1 group.0) groups
 -- the order that a journal tells
 abbrev pub actors_of : Content → List ℕ
 actors_of j = actors_in (order_of j)
+
+-- the acts that an actor made; events are the device actor's
+abbrev pub is_act_by : Board → ℕ → Act → Bool
+is_act_by b actor (Retire core) = core == actor
+is_act_by b actor (Sample core) = core == actor
+is_act_by b actor (Device event) = length b.core == actor
+
+abbrev pub acts_by : Board → ℕ → List Act → List Act
+acts_by b actor acts = filter (is_act_by b actor) acts
 
 -- the run from a start along a journal's own order is finished, and its journal is this one
 pub record Records (b : Board) (map : AddressMap) (first : Machine) (j : Content) : Type 0 where

@@ -12,7 +12,7 @@ ghost use Rattle.n2_journal.specs.declared.entry.Entry.{Entry as EntryValue};
 ghost use Rattle.n2_journal.specs.Journals.{Content};
 ghost use Rattle.n2_runs.specs.Machine.{Machine, start, run, acts, is_finished};
 ghost use Rattle.n2_runs.specs.FlatRun.{flat_start, flat};
-ghost use Rattle.n2_runs.specs.Recorded.{journal_of, actors_of, Records};
+ghost use Rattle.n2_runs.specs.Recorded.{journal_of, actors_of, acts_by, Records};
 ghost use Rattle.n2_runs.specs.Same.{same_entry};
 ghost use Rattle.n2_runs.specs.Replay.{Differs, quiet_turns, replayed};
 
@@ -22,6 +22,12 @@ ghost use Rattle.n2_runs.specs.Replay.{Differs, quiet_turns, replayed};
 pub fn finished_runs()
     ensures state { (b : Board) (images : List Image) (map : AddressMap) (order : List ℕ) → IsValid b → map ≡ address_map b images → length images ≡ length b.core → run b map (start b images) (actors_of (journal_of (run b map (start b images) order))) ≡ run b map (start b images) order }
     ensures records { (b : Board) (images : List Image) (map : AddressMap) (order : List ℕ) → IsValid b → map ≡ address_map b images → length images ≡ length b.core → IsTrue (is_finished b (run b map (start b images) order)) → Records b map (start b images) (journal_of (run b map (start b images) order)) }
+{}
+
+/// A run and the run along its journal's order differ in how turns of different actors stand to each other
+/// alone: each actor makes the same acts in the same order.
+pub fn same_acts()
+    ensures { (b : Board) (images : List Image) (map : AddressMap) (order : List ℕ) (actor : ℕ) → IsValid b → map ≡ address_map b images → length images ≡ length b.core → acts_by b actor (acts b map (start b images) (actors_of (journal_of (run b map (start b images) order)))) ≡ acts_by b actor (acts b map (start b images) order) }
 {}
 
 /// A run and the run along its journal's order have the same flat part: the flat machine over the acts

@@ -1,11 +1,12 @@
-//! The program `n2_board_cases`: cases of images, boards, layouts, devices, memories, buses and watches, a
-//! row of standard input each, are answered by the libraries. `n2_cases` says how rows are written.
+//! The program `n2_board_cases`: cases of images, boards, layouts, devices, memories, buses, journals and
+//! watches, a row of standard input each, are answered by the libraries. `n2_cases` says how rows are written.
 #![tactic(auto)]
 
 mod boards;
 mod bus;
 mod devices;
 mod images;
+mod journals;
 mod layouts;
 mod memories;
 mod watches;
@@ -34,6 +35,7 @@ impl Cases for BoardCases {
             "devices" => devices::devices(alloc, rest, out),
             "memory" => memories::memory(alloc, rest, out),
             "bus" => bus::bus(alloc, rest, out),
+            "journal" => journals::journal(alloc, rest, out),
             "watch" => watches::watch(alloc, rest, out),
             _ => Err(NoAnswer::NoCase),
         }

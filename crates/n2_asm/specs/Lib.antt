@@ -1,3 +1,4 @@
+pub mod FaultTexts
 pub mod Rows
 pub mod Seen
 pub mod Sources

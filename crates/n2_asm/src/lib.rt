@@ -2,6 +2,7 @@
 #![tactic(auto)]
 
 mod faults;
+mod naming;
 mod objects;
 mod output;
 mod rows;
@@ -9,6 +10,7 @@ mod survey;
 
 pub use faults::AsmFault;
 pub use n2_statement::AsmKind;
+pub use naming::put_fault;
 pub use objects::{Object, assemble};
 
 #[cfg(test)]

@@ -37,7 +37,7 @@ some_within [] i lt = absurd (omega arith)
 some_within (x ∷ xs) zero lt = (x, refl)
 some_within (x ∷ xs) (suc i) lt = some_within xs i (omega arith)
 
-one_some : {X : Type 0} (x y : X) (o : Option X) → o ≡ Some x → o ≡ Some y → x ≡ y
+pub one_some : {X : Type 0} (x y : X) (o : Option X) → o ≡ Some x → o ≡ Some y → x ≡ y
 one_some x y o e h = cc
 
 pub not_less : (k n : ℕ) → k < n → eqb k n ≡ false

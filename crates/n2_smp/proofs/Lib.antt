@@ -2,3 +2,4 @@ pub mod Passing
 pub mod Cores
 pub mod Events
 pub mod Machines
+pub mod Opening

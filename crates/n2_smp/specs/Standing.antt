@@ -1,20 +1,23 @@
 -- When a machine's value stands for a state of the caching machine.
-use Rattle.std.specs.Prelude.{◌≡◌, ℕ, ◌<◌, Bool, true, false, List, length, Option, Some, None, slice_get}
+use Rattle.std.specs.Prelude.{◌≡◌, ℕ, ◌<◌, Bool, true, false, List, length, map, Option, Some, None, slice_get}
 use Rattle.n2_parts.specs.declared.board.Board.{Board}
 use Rattle.n2_parts.specs.declared.stops.Act.{Act}
 use Rattle.n2_board.specs.AddressMap.{AddressMap}
 use Rattle.n2_bus.specs.Transfer.{BusState}
 use Rattle.n2_bus.specs.Transfer as bus
 use Rattle.n2_journal.specs.Journals.{Limited}
-use Rattle.n2_watch.specs.World.{shared}
+use Rattle.n2_watch.specs.World.{shared, start_world}
 use Rattle.n2_watch.specs.Watched.{IsMapOf}
 use Rattle.n2_parts.specs.declared.board.CoreRow.{CoreRow}
 use Rattle.n2_bus.specs.declared.request.Request.{Request}
-use Rattle.n2_front.specs.Core.{Core, stop_of}
+use Rattle.n2_elf.specs.declared.image.Image.{Image}
+use Rattle.n2_front.specs.Core.{Core, started_core, stop_of}
 use Rattle.n2_front.specs.Turn.{wants}
 use Rattle.n2_cpu.specs.declared.state.State.{State}
 use Rattle.n2_cpu.specs.Stands as cpu
 use Rattle.n2_runs.specs.Machine.{Machine, turn, is_over}
+use Rattle.n2_runs.specs.Recorded.{journal_of}
+use Rattle.n2_smp.specs.declared.machine.Ran.{Ran}
 use Rattle.n2_runs.specs.Knows.{IsBookKept}
 use Rattle.n2_smp.specs.declared.turns.Turned.{Turned}
 use Rattle.n2_smp.specs.declared.turns.Turned.TheVariants as answers
@@ -99,3 +102,24 @@ pub record EventsStandFor (b : Board) (behind : BusState) (journal : Limited) (s
 pub record AreTurned (b : Board) (map : AddressMap) (behind : BusState) (journal : Limited) (script : Reached) (m : Machine) (answer : Turned) : Type 0 where
   pub stand : EventsStandFor b behind journal script (turn b map m (length b.core)).machine
   pub answer_is : answer ≡ answer_of (is_over b m (length b.core)) (turn b map m (length b.core)).act
+
+-- ---- the ends of a run
+
+-- a core before its first turn
+abbrev pub IsOpened : Board → AddressMap → ℕ → State → Image → Type 0
+IsOpened b map k value image = (row : CoreRow) (images : List Image) → slice_get b.core k ≡ Some row → cpu.StandsFor b map k value (started_core row image) (start_world b images)
+
+-- each core of some
+abbrev pub AreOpened : Board → AddressMap → List State → List Image → Type 0
+AreOpened b map values images = (k : ℕ) (value : State) (image : Image) → slice_get values k ≡ Some value → slice_get images k ≡ Some image → IsOpened b map k value image
+
+-- the turns of each core since its last transfer
+abbrev pub locals_of : List State → List ℕ
+locals_of values = map (λ (value : State). value.clock.local) values
+
+-- what a machine hands out stands for a state: its cores, its bus, and its whole journal
+pub record RanStandsFor (b : Board) (map : AddressMap) (ran : Ran) (m : Machine) : Type 0 where
+  pub count : length ran.cores ≡ length b.core
+  pub cores : (k : ℕ) (value : State) (c : Core) → slice_get ran.cores k ≡ Some value → slice_get m.cores k ≡ Some c → cpu.StandsFor b map k value c m.world
+  pub bus : bus.StandsFor b ran.bus (shared m.world)
+  pub journal : ran.journal.content ≡ journal_of m

@@ -5,6 +5,6 @@ mod machine;
 mod script;
 mod turns;
 
-pub use machine::Machine;
+pub use machine::{Machine, Ran};
 pub use script::Script;
 pub use turns::Turned;

@@ -18,9 +18,11 @@ ghost use Rattle.n2_runs.specs.Replay.{Differs, quiet_turns, replayed};
 
 /// What a run wrote replays. The run along the order that its journal tells comes to the same state of
 /// the machine: what cores share, the cores, the entries and the script that is left. So the journal of
-/// each finished run is that of a finished run, by its own order alone.
+/// each finished run is that of a finished run, by its own order alone; and a journal determines the state:
+/// two runs that wrote the same journal came to the same one.
 pub fn finished_runs()
     ensures state { (b : Board) (images : List Image) (map : AddressMap) (order : List ℕ) → IsValid b → map ≡ address_map b images → length images ≡ length b.core → run b map (start b images) (actors_of (journal_of (run b map (start b images) order))) ≡ run b map (start b images) order }
+    ensures one_state { (b : Board) (images : List Image) (map : AddressMap) (order other : List ℕ) → IsValid b → map ≡ address_map b images → length images ≡ length b.core → journal_of (run b map (start b images) order) ≡ journal_of (run b map (start b images) other) → run b map (start b images) order ≡ run b map (start b images) other }
     ensures records { (b : Board) (images : List Image) (map : AddressMap) (order : List ℕ) → IsValid b → map ≡ address_map b images → length images ≡ length b.core → IsTrue (is_finished b (run b map (start b images) order)) → Records b map (start b images) (journal_of (run b map (start b images) order)) }
 {}
 

@@ -20,3 +20,8 @@ fault_of kind = Failed
 pub record WriterState : Type 0 where
   pub contents : Option (List ℕ)
   pub faults : ℕ
+
+-- a sink over a file: what the file tells of its contents, once it is made, and how many puts failed
+pub record FileState : Type 0 where
+  pub file : Option (Option (List ℕ))
+  pub faults : ℕ

@@ -7,9 +7,11 @@ ghost use Rattle.n2_outside.specs.Faults.{HasCause};
 ghost use Rattle.n2_outside.specs.Files.{Files, IsFile};
 ghost use Rattle.n2_outside.specs.Bytes.{appended, IsPart, Puts, PutsPrefix};
 
+mod file;
 mod memory;
 mod system;
 
+pub use file::FileSink;
 pub use memory::{MemFolder, MemSink, NullSink};
 use std::alloc::Global;
 pub use system::{DirFolder, StdSink, WriteSink};

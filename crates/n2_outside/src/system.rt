@@ -148,7 +148,11 @@ impl<'a, R: Print> WriteSink<Printer<'a, R>> {
 }
 
 /// What a put of a piece answers to a write of it; every failure is counted.
-fn put_answer(written: io::Result<usize>, piece: &[u8], faults: &mut u64) -> Result<usize, Failed>
+pub fn put_answer(
+    written: io::Result<usize>,
+    piece: &[u8],
+    faults: &mut u64,
+) -> Result<usize, Failed>
     ensures fails { IsErr result ↔ IsFailedWrite written piece.now }
     ensures count { IfOk result (λ n. written ≡ Ok n) }
     ensures counts { faults.new ≡ counted (is_err result) faults.old }

@@ -26,6 +26,7 @@ impl<'a, R: Files> Cases for LowCases<'a, R> {
             "order" | "list" | "turns" => orders::answer(alloc, kind, rest, out),
             "folder" | "sink" | "all" => outside::answer(alloc, kind, rest, out),
             "file" => outside::file(alloc, self.rt, rest, out),
+            "put" => outside::put_to_file(alloc, self.rt, rest, out),
             "upto" => words::up_to(alloc, rest, out),
             _ => by_words(alloc, kind, rest, out),
         }

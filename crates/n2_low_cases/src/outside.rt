@@ -1,7 +1,9 @@
 //! Cases of the outside.
 
 use n2_cases::{NoAnswer, bytes_in, number_in, put, put_byte, put_shown, words_of};
-use n2_outside::{DirFolder, FetchFault, Folder, MemFolder, MemSink, NullSink, Sink, put_all};
+use n2_outside::{
+    DirFolder, FetchFault, FileSink, Folder, MemFolder, MemSink, NullSink, Sink, put_all,
+};
 use std::alloc::Global;
 use std::rt::Files;
 
@@ -162,6 +164,24 @@ fn put_to<S: Sink>(
         put_shown(out, "", &sink.put(text))?;
     }
     put(out, ";")
+}
+
+/// `put NAME | TEXT | ..`: what a sink over a file answers to one put after another, and what the current
+/// folder then has in it. The file is `put.txt`, or with the name `.` the folder itself, which cannot be
+/// made.
+pub fn put_to_file<R: Files>(
+    alloc: Global,
+    rt: &R,
+    rest: &str,
+    out: &mut Vec<u8>,
+) -> Result<(), NoAnswer> {
+    let (first, texts) = rest.split_once('|').ok_or(NoAnswer::NoCase)?;
+    let name = if first.trim() == "." { "." } else { "put.txt" };
+    let mut sink = FileSink::new(rt, name);
+    for text in texts.split('|') {
+        put_to(&mut sink, false, &bytes_in(alloc, text.trim())?, out)?;
+    }
+    put_fetched(alloc, &mut DirFolder::new(rt), name, 64, out)
 }
 
 /// `null TEXT`: what the sink that keeps nothing answers.

@@ -9,6 +9,8 @@ mod journals;
 mod orders;
 mod refusal;
 mod rows;
+#[cfg(test)]
+mod tests;
 
 pub use boards::{image_in, read_board, read_images, read_machine};
 pub use files::fetch_file;

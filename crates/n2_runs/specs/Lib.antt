@@ -6,3 +6,4 @@ pub mod Knows
 pub mod Recorded
 pub mod Same
 pub mod Replay
+pub mod Examples

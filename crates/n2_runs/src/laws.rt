@@ -1,5 +1,6 @@
 //! Laws on runs.
 
+pub mod examples;
 pub mod journals;
 pub mod turns;
 

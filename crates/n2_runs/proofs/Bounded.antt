@@ -30,25 +30,46 @@ use Rattle.n2_runs.proofs.Ahead.{same_some}
 use Rattle.n2_runs.proofs.Counted.{count_turn, count_run}
 use Rattle.n2_runs.proofs.Compared.{none_some, true_false, then_ok, quiet_if}
 
--- a valid board has turns
-some_turns : (b : Board) → IsValid b → 0 < b.turns
+-- a valid board has turns, and an end of them and of entries
+record IsTopped (b : Board) : Type 0 where
+  some_turns : 0 < b.turns
+  few_turns : b.turns ≤ 1000000000
+  few_entries : b.journal ≤ 1000000
+
+topped : (b : Board) → IsValid b → IsTopped b
 unfolding first_fault early_faults top_numbers
-some_turns b valid =
+topped b valid =
     let a = none_both (counts b) _ valid in
     let c = none_both (early_faults b) _ a.1 in
     let t = none_both (top_numbers b (part_of Top 0)) _ c.0 in
     let checks : List (Key × Bool) = (keys.Turns, is_between 1 1000000000 b.turns) ∷ (keys.Journal, is_between 1 1000000 b.journal) ∷ [] in
     let good = all_good (part_of Top 0) checks t.0 in
-    low (nat_le b.turns 1000000000) good.0
+    let turns = between b.turns 1000000000 good.0 in
+    let entries = between b.journal 1000000 good.1.0 in
+    record { some_turns = turns.0; few_turns = turns.1; few_entries = entries.1 }
   where
-    low : (x : Bool) → (nat_le 1 b.turns && x) ≡ true → 0 < b.turns
-    low x e = grind (arith, nat_tests)
+    between : (n most : ℕ) → is_between 1 most n ≡ true → (0 < n) × (n ≤ most)
+    between n most e = parts (nat_le 1 n) (nat_le n most) e (λ p q. (grind (arith, nat_tests), grind (arith, nat_tests)))
+      where
+        parts : (x y : Bool) → (x && y) ≡ true → (x ≡ true → y ≡ true → (0 < n) × (n ≤ most)) → (0 < n) × (n ≤ most)
+        parts true true e f = f refl refl
+        parts true false e f = absurd (cc)
+        parts false y e f = absurd (cc)
+
+pub some_turns : (b : Board) → IsValid b → 0 < b.turns
+some_turns b valid = (topped b valid).some_turns
+
+pub few_turns : (b : Board) → IsValid b → b.turns ≤ 1000000000
+few_turns b valid = (topped b valid).few_turns
+
+pub few_entries : (b : Board) → IsValid b → b.journal ≤ 1000000
+few_entries b valid = (topped b valid).few_entries
 
 -- a core made at most the board's number of turns, and fewer where it runs
-abbrev IsBelow : ℕ → Core → Type 0
+abbrev pub IsBelow : ℕ → Core → Type 0
 IsBelow most c = (c.turns ≤ most) × (stop_of c ≡ None → c.turns < most)
 
-abbrev AreBelow : Board → Machine → Type 0
+abbrev pub AreBelow : Board → Machine → Type 0
 AreBelow b m = (k : ℕ) (c : Core) → slice_get m.cores k ≡ Some c → IsBelow b.turns c
 
 ended_below : (b : Board) (turns : ℕ) (stop : Option Stop) → option_or stop (ended_stop (ended_after b turns stop)) ≡ None → turns < b.turns
@@ -59,7 +80,7 @@ ended_below b turns None e = at (nat_lt turns b.turns) refl e
     at false i e = absurd (cc)
 ended_below b turns (Some stop) e = absurd (cc)
 
-turned_below : (b : Board) (map : AddressMap) (k : ℕ) (row : CoreRow) (c : Core) (w : World) → c.turns < b.turns → IsBelow b.turns (core_turn b map k row c w).core
+pub turned_below : (b : Board) (map : AddressMap) (k : ℕ) (row : CoreRow) (c : Core) (w : World) → c.turns < b.turns → IsBelow b.turns (core_turn b map k row c w).core
 unfolding core_turn
 turned_below b map k row c w lt = (omega arith, λ e. ended_below b (c.turns + 1) (core_turn b map k row c w).core.front.stop e)
 
@@ -67,7 +88,7 @@ full_runs : {P : Type 0} (stop : Option Stop) → option_or stop (ended_stop (So
 full_runs None e = absurd (cc)
 full_runs (Some stop) e = absurd (cc)
 
-quiet_below : (b : Board) (map : AddressMap) (k : ℕ) (row : CoreRow) (c : Core) (w : World) → c.turns < b.turns → IsBelow b.turns (quiet b map k row w c)
+pub quiet_below : (b : Board) (map : AddressMap) (k : ℕ) (row : CoreRow) (c : Core) (w : World) → c.turns < b.turns → IsBelow b.turns (quiet b map k row w c)
 unfolding quiet
 quiet_below b map k row c w lt = at (wants b map k row w.book c)
   where
@@ -75,7 +96,7 @@ quiet_below b map k row c w lt = at (wants b map k row w.book c)
     at None = turned_below b map k row c w lt
     at (Some request) = (omega arith, λ e. full_runs c.front.stop e)
 
-quiet_turned : (b : Board) (map : AddressMap) (k : ℕ) (row : CoreRow) (c : Core) (w : World) → (quiet b map k row w c).turns ≡ c.turns + 1
+pub quiet_turned : (b : Board) (map : AddressMap) (k : ℕ) (row : CoreRow) (c : Core) (w : World) → (quiet b map k row w c).turns ≡ c.turns + 1
 unfolding quiet core_turn
 quiet_turned b map k row c w = at (wants b map k row w.book c)
   where
@@ -142,7 +163,7 @@ module _ (b : Board) (map : AddressMap) where
       quiet_bounded k n (turn b map m k).machine x (count_turn b map m count k) (turn_below m count k h) (ap (quiet_turns b map k n) (sym s) ∙ i) in
       omega (arith, z.counts_on)))
 
-started_below : (b : Board) → 0 < b.turns → (rows : List CoreRow) (images : List Image) (k : ℕ) (c : Core) → slice_get (started_cores rows images) k ≡ Some c → IsBelow b.turns c
+pub started_below : (b : Board) → 0 < b.turns → (rows : List CoreRow) (images : List Image) (k : ℕ) (c : Core) → slice_get (started_cores rows images) k ≡ Some c → IsBelow b.turns c
 started_below b lt [] images k c e = absurd (cc)
 started_below b lt (row ∷ rows) [] k c e = absurd (cc)
 started_below b lt (row ∷ rows) (image ∷ images) zero c e = subst (IsBelow b.turns) (same_some (started_core row image) c e) (omega arith, λ s. lt)

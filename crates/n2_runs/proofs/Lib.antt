@@ -22,3 +22,4 @@ pub mod Compared
 pub mod Followed
 pub mod Bounded
 pub mod Named
+pub mod Limits

@@ -1,11 +1,11 @@
 -- The journal of a run, the order that a journal tells, and which journals are those of finished runs.
-use Rattle.std.specs.Prelude.{◌≡◌, ℕ, ◌==◌, Bool, List, length, replicate, IsTrue}
-use Rattle.std.specs.List.{filter, flat_map}
+use Rattle.std.specs.Prelude.{◌≡◌, ℕ, ◌≤◌, ◌==◌, Bool, List, length, replicate, IsTrue}
+use Rattle.std.specs.List.{All, filter, flat_map}
 use Rattle.n2_parts.specs.declared.board.Board.{Board}
 use Rattle.n2_parts.specs.declared.stops.Act.{Act}
 use Rattle.n2_parts.specs.declared.stops.Act.TheVariants.{Retire, Sample, Device}
 use Rattle.n2_board.specs.AddressMap.{AddressMap}
-use Rattle.n2_journal.specs.Journals.{Content, order_of}
+use Rattle.n2_journal.specs.Journals.{Content, IsActorWithin, order_of}
 use Rattle.n2_runs.specs.Machine.{Machine, run, is_finished, tails}
 
 -- the transfers that were made, and for each core its turns after its last one
@@ -33,3 +33,10 @@ acts_by b actor acts = filter (is_act_by b actor) acts
 pub record Records (b : Board) (map : AddressMap) (first : Machine) (j : Content) : Type 0 where
   pub finished : IsTrue (is_finished b (run b map first (actors_of j)))
   pub journal : journal_of (run b map first (actors_of j)) ≡ j
+
+-- the counts of a journal of so many cores are within the limits of one that has a text
+pub record HasCounts (cores : ℕ) (j : Content) : Type 0 where
+  pub entries : All (λ entry. IsActorWithin cores entry.actor entry.local entry.request) j.entries
+  pub few_entries : length j.entries ≤ 1000000
+  pub tails_are : length j.tails ≡ cores
+  pub tails : All (λ tail. tail ≤ 1000000000) j.tails

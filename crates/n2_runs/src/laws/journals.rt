@@ -9,10 +9,10 @@ ghost use Rattle.n2_parts.specs.Valid.{IsValid};
 ghost use Rattle.n2_board.specs.AddressMap.{AddressMap, address_map};
 ghost use Rattle.n2_board.specs.Placement.{open_fault};
 ghost use Rattle.n2_journal.specs.declared.entry.Entry.{Entry as EntryValue};
-ghost use Rattle.n2_journal.specs.Journals.{Content};
+ghost use Rattle.n2_journal.specs.Journals.{Content, HasOrder};
 ghost use Rattle.n2_runs.specs.Machine.{Machine, start, run, acts, is_finished};
 ghost use Rattle.n2_runs.specs.FlatRun.{flat_start, flat};
-ghost use Rattle.n2_runs.specs.Recorded.{journal_of, actors_of, acts_by, Records};
+ghost use Rattle.n2_runs.specs.Recorded.{journal_of, actors_of, acts_by, HasCounts, Records};
 ghost use Rattle.n2_runs.specs.Same.{same_entry};
 ghost use Rattle.n2_runs.specs.Replay.{Differs, quiet_turns, replayed};
 
@@ -38,6 +38,14 @@ pub fn same_acts()
 pub fn same_flat_part()
     ensures fronts { (b : Board) (images : List Image) (map : AddressMap) (order : List ℕ) → IsValid b → map ≡ address_map b images → length images ≡ length b.core → open_fault b images ≡ None → AllByRecursion IsSized images → (flat b map (flat_start b images) (acts b map (start b images) (actors_of (journal_of (run b map (start b images) order))))).cores ≡ (flat b map (flat_start b images) (acts b map (start b images) order)).cores }
     ensures book { (b : Board) (images : List Image) (map : AddressMap) (order : List ℕ) → IsValid b → map ≡ address_map b images → length images ≡ length b.core → open_fault b images ≡ None → AllByRecursion IsSized images → (flat b map (flat_start b images) (acts b map (start b images) (actors_of (journal_of (run b map (start b images) order))))).world.book ≡ (flat b map (flat_start b images) (acts b map (start b images) order)).world.book }
+{}
+
+/// The counts of the journal of every run are within the limits of one that has a text: at most as many
+/// entries as the board allows, a tail for each core, no more turns than the board allows, and each event
+/// by the device actor alone. So its order can be told.
+pub fn counts()
+    ensures limits { (b : Board) (images : List Image) (map : AddressMap) (order : List ℕ) → IsValid b → length images ≡ length b.core → HasCounts (length b.core) (journal_of (run b map (start b images) order)) }
+    ensures order { (b : Board) (images : List Image) (map : AddressMap) (order : List ℕ) → IsValid b → length images ≡ length b.core → HasOrder (journal_of (run b map (start b images) order)) }
 {}
 
 /// The test of two entries tells whether they are equal.

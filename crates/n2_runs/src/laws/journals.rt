@@ -40,9 +40,9 @@ pub fn same_flat_part()
     ensures book { (b : Board) (images : List Image) (map : AddressMap) (order : List ℕ) → IsValid b → map ≡ address_map b images → length images ≡ length b.core → open_fault b images ≡ None → AllByRecursion IsSized images → (flat b map (flat_start b images) (acts b map (start b images) (actors_of (journal_of (run b map (start b images) order))))).world.book ≡ (flat b map (flat_start b images) (acts b map (start b images) order)).world.book }
 {}
 
-/// The counts of the journal of every run are within the limits of one that has a text: at most as many
-/// entries as the board allows, a tail for each core, no more turns than the board allows, and each event
-/// by the device actor alone. So its order can be told.
+/// The counts of the journal of every run are within the limits of one that has a text: at most 1,000,000
+/// entries, a tail for each core, at most 1,000,000,000 turns in each count, and each event by the device
+/// actor alone. So its order can be told.
 pub fn counts()
     ensures limits { (b : Board) (images : List Image) (map : AddressMap) (order : List ℕ) → IsValid b → length images ≡ length b.core → HasCounts (length b.core) (journal_of (run b map (start b images) order)) }
     ensures order { (b : Board) (images : List Image) (map : AddressMap) (order : List ℕ) → IsValid b → length images ≡ length b.core → HasOrder (journal_of (run b map (start b images) order)) }
@@ -70,9 +70,9 @@ pub fn first_row()
     ensures tail { (b : Board) (images : List Image) (map : AddressMap) (j : Content) (why : Differs) (before after : List ℕ) (tail : ℕ) → length images ≡ length b.core → replayed b map (start b images) j ≡ Err why → j.tails ≡ before ++ tail ∷ after → why.row ≡ length j.entries + 2 + length before → (k : Content) → Records b map (start b images) k → (more : List ℕ) → k ≢ record { entries = j.entries; tails = before ++ tail ∷ more } }
 {}
 
-/// No row of a replay makes more turns than the board allows, whatever it claims: of the turns without a
-/// transfer that an entry or a tail counts, at most the board's number agree, and the first that does
-/// not is the last one that is looked at.
+/// No row of a replay makes more turns without a transfer than the board allows, whatever it claims: of
+/// those that an entry or a tail counts at most the board's number agree, and the first that does not is
+/// the last one that is looked at.
 pub fn replay_is_bounded()
     ensures { (b : Board) (images : List Image) (map : AddressMap) (order : List ℕ) (actor n : ℕ) (m : Machine) → IsValid b → length images ≡ length b.core → quiet_turns b map actor n (run b map (start b images) order) ≡ Ok m → n ≤ b.turns }
 {}

@@ -52,7 +52,6 @@ use Rattle.n2_flat.proofs.Noted.{core_with}
 use Rattle.n2_flat.proofs.Shared.{write_world, write_touched}
 use Rattle.n2_flat.proofs.Alone.{stands_on}
 
-
 -- ---- lists whose newest element is another
 pub newest_put : {A : Type 0} (items : List A) (newest event : A) (past : List A) (i : ℕ) → i + 1 ≡ length items → reverse items ≡ newest ∷ past → reverse (slice_set items i event) ≡ event ∷ past
 newest_put {A} items newest event past i n e =

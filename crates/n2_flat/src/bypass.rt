@@ -94,7 +94,11 @@ fn guard_written(part: Part, offset: u32, region: Option<u32>) -> Option<Guard>
     ensures { result ≡ guard_written part.kind part.index offset region }
 {
     match part.kind {
-        PartKind::Mutex => if offset == 0 { Some(Guard::Mutex(part.index)) } else { None },
+        PartKind::Mutex => if offset == 0 {
+            Some(Guard::Mutex(part.index))
+        } else {
+            None
+        },
         _ => passed(region),
     }
 }
@@ -362,16 +366,9 @@ impl FlatCore {
             return Err(NoMemory);
         }
         self.past.push(Past::Got(Guard::Mutex(part.index)))?;
-        let region = posted_region(
-            part.kind,
-            offset,
-            self.watch.region_at(layout, part.index),
-        );
+        let region = posted_region(part.kind, offset, self.watch.region_at(layout, part.index));
         let reply = common.transfer(k, &Request::Write(low, Width::Word, value));
-        common.hold(
-            taken(reply.took, region),
-            Holder::ByMailbox(part.index),
-        );
+        common.hold(taken(reply.took, region), Holder::ByMailbox(part.index));
         let guard = guard_written(part, offset, region);
         let before = owns(&self.watch, guard);
         self.watch.note(
@@ -451,13 +448,9 @@ impl FlatCore {
             }
             Place::Device { part, offset } => {
                 if part.kind == PartKind::Uart {
-                    self.store_uart(
-                        board, k, layout, common, address, low, value, part, offset,
-                    )
+                    self.store_uart(board, k, layout, common, address, low, value, part, offset)
                 } else {
-                    self.store_guarded(
-                        board, k, layout, common, address, low, value, part, offset,
-                    )
+                    self.store_guarded(board, k, layout, common, address, low, value, part, offset)
                 }
             }
             Place::Nothing => {

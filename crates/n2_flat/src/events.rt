@@ -2,7 +2,6 @@
 
 ghost use Rattle.std.specs.Prelude.{◌≡◌, ◌∷◌, ◌<◌, ◌^◌, [], List, length, reverse, OnOk, OnErr};
 ghost use Rattle.n2_watch.specs.declared.past.Past.{Past as PastEvent};
-
 ghost use Rattle.n2_flat.specs.State.{event_noted, with_event};
 
 use n2_board::Guard;

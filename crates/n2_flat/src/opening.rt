@@ -54,7 +54,11 @@ fn first_holder(class: &RegionClass) -> Option<Holder>
 fn holders(alloc: Global, rows: &[RegionRow]) -> Result<Vec<Option<Holder>>, NoMemory>
     ensures { IfOk result (λ holders. holders.items ≡ map (λ row. holder_at_start row.class) rows.now) }
 {
-    match rows.iter().map(|row| first_holder(&row.class)).collect(alloc) {
+    match rows
+        .iter()
+        .map(|row| first_holder(&row.class))
+        .collect(alloc)
+    {
         Ok(holders) => Ok(holders),
         Err(_) => Err(NoMemory),
     }

@@ -40,7 +40,6 @@ transfer-reply-requires c =
     subst (λ (x : Wiring). IsTrue (proper x c.args.k (Write c.args.low Word c.args.value))) (sym c.requires.at.common.wiring)
     (subst (λ (l : ℕ). IsTrue (proper (wiring_of c.args.board.now) c.args.k (Write l Word c.args.value))) (sym c.requires.low) p)
 
-
 pub returns-clause-done : goal.returns-clause-done
 returns-clause-done c =
     let i = c.self.inside in

@@ -68,7 +68,7 @@ module _ (b : Board) (map : AddressMap) (k : ℕ) (m : Machine) (row : CoreRow) 
   abbrev t : CoreTurn
   t = core_turn b map k row c m.world
 
-  over_by : (stop : Option Stop) → stop_of c ≡ stop → is_over b m k ≡ is_some stop
+  pub over_by : (stop : Option Stop) → stop_of c ≡ stop → is_over b m k ≡ is_some stop
   over_by stop e =
       ap (λ (x : Bool). cond x (script_is_over b m m.script) (core_is_over (slice_get m.cores k))) (not_less k (length b.core) lt)
       ∙ ap core_is_over there
@@ -168,7 +168,7 @@ module _ (b : Board) (map : AddressMap) (k : ℕ) (m : Machine) (old : State) (b
   has_row : (row : CoreRow) × (slice_get b.core k ≡ Some row)
   has_row = some_within b.core k at.within
 
-  abbrev TellsStep : State → Step → Type 0
+  abbrev pub TellsStep : State → Step → Type 0
   TellsStep new step = (row : CoreRow) (c : Core) → cpu.StandsFor b map k old c m.world → IsShared b map m.world → slice_get b.core k ≡ Some row → IsStep b map k row old new step c m.world
 
   told : (new : State) (step : Step) → TellsStep new step → IsStep b map k has_row.0 old new step there.0 m.world
@@ -176,6 +176,9 @@ module _ (b : Board) (map : AddressMap) (k : ℕ) (m : Machine) (old : State) (b
 
   abbrev next : CoreTurn
   next = core_turn b map k has_row.0 there.0 m.world
+
+  pub room_same : has_room b m ≡ ltb (length journal.content.entries) journal.limit
+  room_same = ap (λ (es : List Entry). ltb (length es) b.journal) (sym at.entries) ∙ ap (λ (n : ℕ). ltb (length journal.content.entries) n) (sym at.limit)
 
   pub made_turned : (new : State) (step : Step) (act : Option Act) (answer : Turned) → TellsStep new step → step ≡ steps.Made act → answer ≡ answer_of false act → IsTurnedAt b map k new behind journal m answer
   made_turned new step act answer tells e is =
@@ -221,15 +224,12 @@ module _ (b : Board) (map : AddressMap) (k : ℕ) (m : Machine) (old : State) (b
     stands_now : cpu.StandsFor b map k old wanted.core m.world
     stands_now = at.core wanted.core wanted.has_core
 
-    same_room : has_room b m ≡ ltb (length journal.content.entries) journal.limit
-    same_room = ap (λ (es : List Entry). ltb (length es) b.journal) (sym at.entries) ∙ ap (λ (n : ℕ). ltb (length journal.content.entries) n) (sym at.limit)
-
     pub full_turned : (new : State) → ltb (length journal.content.entries) journal.limit ≡ false → ((c : Core) → cpu.StandsFor b map k old c m.world → cpu.StandsFor b map k new (log_full c) m.world) → IsMadeAt b map k new behind journal m None
     full_turned new room tells =
-        full_made b map k m wanted.row wanted.core at.within wanted.has_row wanted.has_core wanted.runs request wanted.wants new behind journal at.bus at.entries at.limit (same_room ∙ room) (tells wanted.core stands_now)
+        full_made b map k m wanted.row wanted.core at.within wanted.has_row wanted.has_core wanted.runs request wanted.wants new behind journal at.bus at.entries at.limit (room_same ∙ room) (tells wanted.core stands_now)
 
     pub entered_turned : (new : State) (reply : Reply) (act : Option Act) → ltb (length journal.content.entries) journal.limit ≡ true → reply ≡ (served behind.wiring k behind.shared request).reply → ((row : CoreRow) (c : Core) → cpu.StandsFor b map k old c m.world → IsShared b map m.world → slice_get b.core k ≡ Some row → stop_of c ≡ None → wants b map k row m.world.book c ≡ Some request → reply ≡ (transferred b map k m.world request).reply → IsNext b map k new act (core_turn b map k row c m.world)) → IsMadeAt b map k new (bus_after behind k request) (record { content = with_entry journal.content (record { actor = k; local = old.clock.local; request = request; reply = reply }); limit = journal.limit }) m act
     entered_turned new reply act room replied tells =
         let r : reply ≡ (transferred b map k m.world request).reply = replied ∙ same_reply b behind (shared m.world) k request at.bus ∙ sym (transferred_reply b map k m.world request) in
-        entered_made b map k m wanted.row wanted.core at.within wanted.has_row wanted.has_core wanted.runs request wanted.wants new behind journal old.clock.local reply act at.bus at.entries at.limit (same_room ∙ room) (sym stands_now.local) replied
+        entered_made b map k m wanted.row wanted.core at.within wanted.has_row wanted.has_core wanted.runs request wanted.wants new behind journal old.clock.local reply act at.bus at.entries at.limit (room_same ∙ room) (sym stands_now.local) replied
         (tells wanted.row wanted.core stands_now (is_shared b map m kept) wanted.has_row wanted.runs wanted.wants r)

@@ -3,3 +3,5 @@ pub mod Cores
 pub mod Events
 pub mod Machines
 pub mod Opening
+pub mod Quiet
+pub mod Following

@@ -67,30 +67,24 @@ module _ (v : Parts) (sound : IsSound v) where
     pub ready : IsReady v.map k value v.bus v.journal
     ready = record { board = v.board; map_of = sound.map_of; state = sound.state; stands = stands_at sound.state sound.stands; kept = sound.kept }
 
-    module _ (new : State) (behind : BusState) (journal : Limited) (answer : Turned) (turned : (b : Board) (m : Machine) → StandsAt b v.map k value v.bus v.journal m → IsBookKept b v.map m → IsTurnedAt b v.map k new behind journal m answer) where
+    module _ (new : State) (behind : BusState) (journal : Limited) (stands : (b : Board) (m : Machine) → StandsAt b v.map k value v.bus v.journal m → IsBookKept b v.map m → StandsAt b v.map k new behind journal (turn b v.map m k).machine) where
       abbrev next : Parts
       next = record { board = v.board; map = v.map; cores = slice_set v.cores k new; bus = behind; journal = journal; script = v.script }
 
-      at_after : (m : Machine) → StandsFor v m → IsBookKept v.board v.map m → IsTurnedAt v.board v.map k new behind journal m answer
-      at_after m h kept = turned v.board m (stands_at m h) kept
-
       pub core_stands : (m : Machine) → StandsFor v m → IsBookKept v.board v.map m → StandsFor next (turn v.board v.map m k).machine
       core_stands m h kept =
-          let x : IsTurnedAt v.board v.map k new behind journal m answer = at_after m h kept in
+          let x : StandsAt v.board v.map k new behind journal (turn v.board v.map m k).machine = stands v.board m (stands_at m h) kept in
           let each = set_each (λ (j : ℕ) (s : State). (c : Core) → slice_get (turn v.board v.map m k).machine.cores j ≡ Some c → cpu.StandsFor v.board v.map j s c (turn v.board v.map m k).machine.world)
-          v.cores k new (λ c there. x.stands.core c there) (λ j s e ne c there. other_stands m k j s c h kept ne e there)
+          v.cores k new (λ c there. x.core c there) (λ j s e ne c there. other_stands m k j s c h kept ne e there)
           in
           record {
             count = length-set v.cores k new ∙ h.count;
             cores = λ j s c e there. each j s e c there;
-            bus = x.stands.bus;
-            entries = x.stands.entries;
-            limit = x.stands.limit;
+            bus = x.bus;
+            entries = x.entries;
+            limit = x.limit;
             script = h.script ∙ sym (script_left v.board v.map m kept.count k core_within);
           }
-
-      pub core_answers : (m : Machine) → StandsFor v m → IsBookKept v.board v.map m → answer ≡ answer_of (is_over v.board m k) (turn v.board v.map m k).act
-      core_answers m h kept = (at_after m h kept).answer_is
 
       pub core_sound : journal.content.tails ≡ v.journal.content.tails → IsSound next
       core_sound tails = record {

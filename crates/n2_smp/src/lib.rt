@@ -2,9 +2,11 @@
 #![tactic(auto)]
 
 mod machine;
+mod replay;
 mod script;
 mod turns;
 
 pub use machine::{Machine, Ran};
+pub use replay::Wrong;
 pub use script::Script;
 pub use turns::Turned;

@@ -33,12 +33,12 @@ use std::marker::Model;
 /// of the definition it stands.
 #[derive(Drop)]
 pub struct Machine {
-    board: Board,
-    layout: Layout,
-    cores: Vec<Core>,
-    bus: Bus,
-    journal: Journal,
-    script: Script,
+    pub(crate) board: Board,
+    pub(crate) layout: Layout,
+    pub(crate) cores: Vec<Core>,
+    pub(crate) bus: Bus,
+    pub(crate) journal: Journal,
+    pub(crate) script: Script,
 }
 
 impl Model for Machine {

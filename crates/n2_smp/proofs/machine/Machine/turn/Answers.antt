@@ -5,7 +5,7 @@ use Rattle.n2_runs.specs.FlatRun.{Flat}
 use Rattle.n2_runs.specs.Along.{IsAlong, after}
 use Rattle.n2_runs.specs.Knows.{IsBookKept}
 use Rattle.n2_smp.specs.Standing.{Parts, StandsFor, answer_of}
-use Rattle.n2_smp.proofs.Machines.{kept_after, agrees_after, ready, core_stands, core_answers, core_sound, event_stands, event_sound, indexed}
+use Rattle.n2_smp.proofs.Machines.{kept_after, agrees_after, ready, stands_at, core_stands, core_sound, event_stands, event_sound, indexed}
 use Rattle.n2_smp.proofs.machine.Machine.turn.Goals as goal
 
 -- ---- the device actor
@@ -46,7 +46,7 @@ invariant_of-self-2 c =
     let board = ap (λ (v : Parts). length v.board.core) c.self.view_is in
     let lt : c.args.actor < length c.self.inside.cores.items = omega arith in
     core_sound _ c.self.invariant c.args.actor c.index_mut.result.now (indexed c.self.inside.cores.items c.args.actor c.index_mut.result.now lt c.index_mut.ensures.value)
-    c.turn_of_core.new.core c.turn_of_core.new.bus c.turn_of_core.new.journal c.turn_of_core.result c.turn_of_core.ensures.turned c.turn_of_core.ensures.tails
+    c.turn_of_core.new.core c.turn_of_core.new.bus c.turn_of_core.new.journal (λ b m at kept. (c.turn_of_core.ensures.turned b m at kept).stands) c.turn_of_core.ensures.tails
 
 pub returns-clause-stands : goal.returns-clause-stands
 returns-clause-stands c =
@@ -54,7 +54,7 @@ returns-clause-stands c =
     let board = ap (λ (v : Parts). length v.board.core) c.self.view_is in
     let lt : c.args.actor < length c.self.inside.cores.items = omega arith in
     let made = core_stands _ c.self.invariant c.args.actor c.index_mut.result.now (indexed c.self.inside.cores.items c.args.actor c.index_mut.result.now lt c.index_mut.ensures.value)
-    c.turn_of_core.new.core c.turn_of_core.new.bus c.turn_of_core.new.journal c.turn_of_core.result c.turn_of_core.ensures.turned
+    c.turn_of_core.new.core c.turn_of_core.new.bus c.turn_of_core.new.journal (λ b m at kept. (c.turn_of_core.ensures.turned b m at kept).stands)
     in
     subst (λ (v : Parts). (m : Machine) → StandsFor v m → IsBookKept v.board v.map m → StandsFor (record { board = c.self.inside.board; map = c.self.inside.layout; cores = slice_set c.self.inside.cores.items c.args.actor c.turn_of_core.new.core; bus = c.turn_of_core.new.bus; journal = c.turn_of_core.new.journal; script = c.self.inside.script }) (turn v.board v.map m c.args.actor).machine)
     c.self.view_is made
@@ -64,10 +64,9 @@ returns-clause-answer c =
     let count = c.self.invariant.stands.count in
     let board = ap (λ (v : Parts). length v.board.core) c.self.view_is in
     let lt : c.args.actor < length c.self.inside.cores.items = omega arith in
-    let made = core_answers _ c.self.invariant c.args.actor c.index_mut.result.now (indexed c.self.inside.cores.items c.args.actor c.index_mut.result.now lt c.index_mut.ensures.value)
-    c.turn_of_core.new.core c.turn_of_core.new.bus c.turn_of_core.new.journal c.turn_of_core.result c.turn_of_core.ensures.turned
-    in
-    subst (λ (v : Parts). (m : Machine) → StandsFor v m → IsBookKept v.board v.map m → c.turn_of_core.result ≡ answer_of (is_over v.board m c.args.actor) (turn v.board v.map m c.args.actor).act) c.self.view_is made
+    let at = stands_at _ c.self.invariant c.args.actor c.index_mut.result.now (indexed c.self.inside.cores.items c.args.actor c.index_mut.result.now lt c.index_mut.ensures.value) in
+    subst (λ (v : Parts). (m : Machine) → StandsFor v m → IsBookKept v.board v.map m → c.turn_of_core.result ≡ answer_of (is_over v.board m c.args.actor) (turn v.board v.map m c.args.actor).act) c.self.view_is
+    (λ m h kept. (c.turn_of_core.ensures.turned c.self.inside.board m (at m h) kept).answer_is)
 
 pub returns-clause-kept : goal.returns-clause-kept
 returns-clause-kept c = subst (λ (v : Parts). (m : Machine) → IsBookKept v.board v.map m → IsBookKept v.board v.map (turn v.board v.map m c.args.actor).machine) c.self.view_is (λ m kept. kept_after _ c.self.invariant m c.args.actor kept)

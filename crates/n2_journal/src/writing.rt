@@ -1,8 +1,8 @@
 //! The text of a journal, row by row.
 
-ghost use Rattle.std.specs.Prelude.{◌≡◌, ◌^◌, ◌<◌, ◌*◌, ◌++◌, ◌∷◌, [], length, map, All, OnOk, IfOk, decimal, codes};
+ghost use Rattle.std.specs.Prelude.{◌≡◌, ◌++◌, ◌∷◌, [], length, map, OnOk, IfOk, decimal, codes};
 ghost use Rattle.n2_text.specs.Fields.{word_text};
-ghost use Rattle.n2_journal.specs.Journals.{IsRequestWithin, IsEntryWithin, IsWithinLimits, first_word};
+ghost use Rattle.n2_journal.specs.Journals.{first_word};
 ghost use Rattle.n2_journal.specs.Texts as spec;
 ghost use Rattle.n2_journal.specs.Texts.{spaced, width_text, bit_text, line_text, words_fields, access_fields, body_fields, actor_text, entry_row, tail_row, tail_rows, rows_text, journal_text};
 
@@ -65,12 +65,18 @@ fn put_words(out: &mut Vec<u8>, words: &[u32]) -> Result<(), NoMemory>
     Ok(())
 }
 
+/// A line's first address.
+fn put_line_field(out: &mut Vec<u8>, line: u32) -> Result<(), NoMemory>
+    ensures { OnOk result (out.new.items ≡ out.old.items ++ 32 ∷ line_text line) }
+{
+    put_word_field(out, line.wrapping_mul(32))
+}
+
 /// A line's first address and its words.
 fn put_line(out: &mut Vec<u8>, line: u32, words: &[u32]) -> Result<(), NoMemory>
-    requires { line < 2 ^ 26 }
     ensures { OnOk result (out.new.items ≡ out.old.items ++ spaced (line_text line ∷ words_fields words.now)) }
 {
-    put_word_field(out, 32 * line)?;
+    put_line_field(out, line)?;
     put_words(out, words)
 }
 
@@ -103,7 +109,6 @@ fn put_moved(out: &mut Vec<u8>, uart: u32, took: bool) -> Result<(), NoMemory>
 /// What was asked for, and what was replied.
 #[tactic(auto, unfolding(crate::specs::Texts::body_fields))]
 fn put_body(out: &mut Vec<u8>, request: &Request, reply: &Reply) -> Result<(), NoMemory>
-    requires { IsRequestWithin request.now }
     ensures { OnOk result (out.new.items ≡ out.old.items ++ spaced (body_fields request.now reply.now)) }
 {
     match request {
@@ -160,7 +165,6 @@ fn put_actor(out: &mut Vec<u8>, cores: usize, actor: u32) -> Result<(), NoMemory
 
 #[tactic(auto, using(crate::proofs::Steps::row_spaced, std::proofs::Common::append_assoc))]
 fn put_entry(out: &mut Vec<u8>, cores: usize, entry: &Entry) -> Result<(), NoMemory>
-    requires { IsRequestWithin entry.now.request }
     ensures { OnOk result (out.new.items ≡ out.old.items ++ entry_row cores entry.now ++ 10 ∷ []) }
 {
     put_actor(out, cores, entry.actor)?;
@@ -170,7 +174,6 @@ fn put_entry(out: &mut Vec<u8>, cores: usize, entry: &Entry) -> Result<(), NoMem
 }
 
 fn put_entries(out: &mut Vec<u8>, cores: usize, entries: &[Entry]) -> Result<(), NoMemory>
-    requires { All (IsEntryWithin cores) entries.now }
     ensures { OnOk result (out.new.items ≡ out.old.items ++ rows_text (map (entry_row cores) entries.now)) }
 {
     for entry in entries {
@@ -198,10 +201,9 @@ fn put_tails(out: &mut Vec<u8>, tails: &[u64]) -> Result<(), NoMemory>
 }
 
 impl Journal {
-    /// The text of the journal.
+    /// The text of the journal. It is read again as this journal where that is within the limits.
     #[tactic(auto, unfolding(crate::specs::Texts::journal_text))]
     pub fn write_text(&self, alloc: Global) -> Result<Vec<u8>, NoMemory>
-        requires { IsWithinLimits self.now.content }
         ensures { IfOk result (λ text. text.items ≡ journal_text self.now.content) }
     {
         let entries = self.entries();

@@ -1,0 +1,89 @@
+-- Who is over, and the next turn of a chosen order.
+use Rattle.std.proofs.Common.{◌≡◌, ◌≢◌, ℕ, zero, suc, ◌+◌, ◌-◌, ◌<◌, ◌≤◌, ◌++◌, Bool, true, false, cond, eqb, List, [], ◌∷◌, length, slice_get, slice_set, Option, Some, None, refl, sym, ap, ◌∙◌, subst, arith, length-set}
+use Rattle.std.proofs.lemmas.Bool.Decides.{nat_tests}
+use Rattle.n2_parts.specs.declared.board.Board.{Board}
+use Rattle.n2_board.specs.AddressMap.{AddressMap}
+use Rattle.n2_front.specs.Core.{Core}
+use Rattle.n2_order.specs.Choices.{State, next_of}
+use Rattle.n2_runs.specs.Machine.{Machine, turn, run, script_is_over, core_is_over, is_over}
+use Rattle.n2_runs.proofs.Lists.{set_each}
+use Rattle.n2_runs.proofs.Books.{other_core}
+use Rattle.n2_driver.specs.Chosen.{overs_from, overs, then_chosen, chosen}
+
+pub overs_count : (b : Board) (m : Machine) (k n : ℕ) → length (overs_from b m k n) ≡ n
+overs_count b m k zero = refl
+overs_count b m k (suc n) = ap suc (overs_count b m (k + 1) n)
+
+-- one more
+pub overs_push : (b : Board) (m : Machine) (k n : ℕ) → overs_from b m k n ++ is_over b m (k + n) ∷ [] ≡ overs_from b m k (n + 1)
+overs_push b m k zero = let z : k + zero ≡ k = omega arith in ap (λ (i : ℕ). is_over b m i ∷ []) z
+overs_push b m k (suc n) =
+    let z : k + suc n ≡ k + 1 + n = omega arith in
+    let w : suc (n + 1) ≡ suc n + 1 = omega arith in
+    ap (λ (i : ℕ). is_over b m k ∷ (overs_from b m (k + 1) n ++ is_over b m i ∷ [])) z
+    ∙ ap (λ (l : List Bool). is_over b m k ∷ l) (overs_push b m (k + 1) n)
+    ∙ ap (overs_from b m k) w
+
+-- what the list says of an actor
+pub over_at : (b : Board) (m : Machine) (k n actor : ℕ) (x : Bool) → slice_get (overs_from b m k n) actor ≡ Some x → is_over b m (k + actor) ≡ x
+over_at b m k zero actor x e = absurd (cc)
+over_at b m k (suc n) zero x e =
+    let z : k + zero ≡ k = omega arith in
+    let same : is_over b m k ≡ x = cc in
+    ap (λ (i : ℕ). is_over b m i) z ∙ same
+over_at b m k (suc n) (suc actor) x e =
+    let z : k + suc actor ≡ k + 1 + actor = omega arith in
+    ap (λ (i : ℕ). is_over b m i) z ∙ over_at b m (k + 1) n actor x e
+
+-- a list that says of each actor whether it is over
+told_each : (b : Board) (m : Machine) (k : ℕ) (xs : List Bool) → ((i : ℕ) (x : Bool) → slice_get xs i ≡ Some x → x ≡ is_over b m (k + i)) → xs ≡ overs_from b m k (length xs)
+told_each b m k [] h = refl
+told_each b m k (x ∷ xs) h =
+    let z : k + zero ≡ k = omega arith in
+    ap (λ (y : Bool). y ∷ xs) (h zero x refl ∙ ap (λ (i : ℕ). is_over b m i) z)
+    ∙ ap (λ (l : List Bool). is_over b m k ∷ l) (told_each b m (k + 1) xs (λ i y e. let w : k + suc i ≡ k + 1 + i = omega arith in h (suc i) y e ∙ ap (λ (j : ℕ). is_over b m j) w))
+
+-- a turn of an actor changes nothing of whether another core is over
+other_over : (b : Board) (map : AddressMap) (m : Machine) (actor j : ℕ) → j ≢ actor → j ≢ length b.core → is_over b m j ≡ is_over b (turn b map m actor).machine j
+other_over b map m actor j ne core =
+    ap (λ (x : Bool). cond x (script_is_over b m m.script) (core_is_over (slice_get m.cores j))) apart
+    ∙ ap core_is_over (sym (other_core b map m actor j ne))
+    ∙ sym (ap (λ (x : Bool). cond x (script_is_over b (turn b map m actor).machine (turn b map m actor).machine.script) (core_is_over (slice_get (turn b map m actor).machine.cores j))) apart)
+  where
+    apart : eqb j (length b.core) ≡ false
+    apart = grind (arith, nat_tests)
+
+pub zero_more : (j : ℕ) → 0 + j ≡ j
+zero_more j = omega arith
+
+-- so the list is kept by what it says of the actor that moved, and of the device actor
+pub overs_moved : (b : Board) (map : AddressMap) (m : Machine) (actor : ℕ) (over : List Bool) (x y : Bool) → over ≡ overs b m → x ≡ is_over b (turn b map m actor).machine actor → y ≡ is_over b (turn b map m actor).machine (length b.core) → slice_set (slice_set over actor x) (length b.core) y ≡ overs b (turn b map m actor).machine
+overs_moved b map m actor over x y e p q =
+    let after = (turn b map m actor).machine in
+    let count : length (slice_set (slice_set over actor x) (length b.core) y) ≡ length b.core + 1 =
+    length-set (slice_set over actor x) (length b.core) y ∙ length-set over actor x ∙ ap length e ∙ overs_count b m 0 (length b.core + 1) in
+    let from_zero : (x : Machine) (j : ℕ) → is_over b x (0 + j) ≡ is_over b x j = λ x j. ap (is_over b x) (zero_more j) in
+    told_each b after 0 (slice_set (slice_set over actor x) (length b.core) y)
+    (λ j z there. set_each (λ (j : ℕ) (z : Bool). z ≡ is_over b after j) (slice_set over actor x) (length b.core) y q
+    (λ j z there ne. set_each (λ (j : ℕ) (z : Bool). j ≢ length b.core → z ≡ is_over b after j) over actor x (λ n. p)
+    (λ j z there moved n. sym (over_at b m 0 (length b.core + 1) j z (ap (λ (l : List Bool). slice_get l j) (sym e) ∙ there)) ∙ from_zero m j ∙ other_over b map m actor j moved n) j z there ne) j z there ∙ sym (from_zero after j))
+    ∙ ap (overs_from b after 0) count
+
+-- the next turn of an order
+pub next_turn : (b : Board) (map : AddressMap) (n rest : ℕ) (m : Machine) (order after : State) (actor : ℕ) → n ≡ suc rest → next_of order (overs b m) ≡ Some (actor, after) → run b map m (chosen b map n m order) ≡ run b map (turn b map m actor).machine (chosen b map rest (turn b map m actor).machine after)
+unfolding chosen run
+next_turn b map n rest m order after actor e picked =
+    ap (λ (k : ℕ). run b map m (chosen b map k m order)) e
+    ∙ ap (λ (o : Option (ℕ × State)). run b map m (then_chosen o (λ k s. chosen b map rest (turn b map m k).machine s))) picked
+
+-- there is none where all are over
+pub no_turn : (b : Board) (map : AddressMap) (n : ℕ) (m : Machine) (order : State) → next_of order (overs b m) ≡ None → run b map m (chosen b map n m order) ≡ m
+unfolding chosen run
+no_turn b map zero m order e = refl
+no_turn b map (suc n) m order e =
+    ap (λ (o : Option (ℕ × State)). run b map m (then_chosen o (λ k s. chosen b map n (turn b map m k).machine s))) e
+
+pub spent_turns : (b : Board) (map : AddressMap) (n : ℕ) (m : Machine) (order : State) → n ≡ 0 → run b map m (chosen b map n m order) ≡ m
+unfolding chosen run
+spent_turns b map zero m order e = refl
+spent_turns b map (suc n) m order e = absurd (omega arith)

@@ -12,9 +12,16 @@ an image is loaded in time linear in its bytes, up to 16 MiB, and in its segment
 ELF32 can have: a raw one, which is refused since it is longer than the memory, an ELF file of which one
 small segment is loaded, and ELF files of many segments. Peak memory is never below that of the Python
 process that starts the program, which is about 11 MiB.
+
+The rows of stores are of one own line and of 1,000, none of which is ever cleaned: time is linear in them, and
+so is memory, since the flat machine keeps every past event; the whole peak by the stores bounds the bytes a
+store, the list's spare room counted.
+
+    bench/plain.py OLD    # OLD is another build of the program, beside which the loops run by turns
 """
 import os
 import struct
+import sys
 import tempfile
 import time
 
@@ -76,6 +83,12 @@ def branches():
     ])
 
 
+def stores(lines):
+    """8,000 stores in a loop, to so many lines by turns."""
+    body = [i_type(0x15, 8, 2, 32 * (i % lines)) for i in range(8000)]  # stw r2, 32 * n(r8)
+    return [i_type(0x14, 0, 8, 0x8000)] + looped(body)
+
+
 def write_raw(path, mib):
     """A raw file of zeros."""
     with open(path, "wb") as file:
@@ -109,22 +122,49 @@ def files(path):
         yield f"ELF file, {count} segments", 0
 
 
+def run_once(program, path, steps, expected):
+    begun = time.perf_counter()
+    child = os.fork()
+    if child == 0:
+        null = os.open(os.devnull, os.O_WRONLY)
+        os.dup2(null, 1)
+        os.execv(program, [program, "plain", path, str(steps)])
+    _, status, usage = os.wait4(child, 0)
+    seconds = time.perf_counter() - begun
+    if os.waitstatus_to_exitcode(status) not in expected:
+        raise SystemExit(f"{path}: status {os.waitstatus_to_exitcode(status)}")
+    return seconds, usage.ru_maxrss
+
+
 def run(path, steps, expected=(0, 2)):
-    best, peak = None, 0
-    for _ in range(5):
-        begun = time.perf_counter()
-        child = os.fork()
-        if child == 0:
-            null = os.open(os.devnull, os.O_WRONLY)
-            os.dup2(null, 1)
-            os.execv(PROGRAM, [PROGRAM, "plain", path, str(steps)])
-        _, status, usage = os.wait4(child, 0)
-        seconds = time.perf_counter() - begun
-        if os.waitstatus_to_exitcode(status) not in expected:
-            raise SystemExit(f"{path}: status {os.waitstatus_to_exitcode(status)}")
-        best = seconds if best is None else min(best, seconds)
-        peak = max(peak, usage.ru_maxrss)
-    return best, peak
+    runs = [run_once(PROGRAM, path, steps, expected) for _ in range(5)]
+    return min(seconds for seconds, _ in runs), max(peak for _, peak in runs)
+
+
+def write_words(path, words):
+    with open(path, "wb") as file:
+        file.write(b"".join(struct.pack("<I", word) for word in words))
+
+
+def print_stores(path):
+    """Seconds, nanoseconds and a bound on the bytes a store, by how many lines and stores."""
+    print(f"{'stores':32} {'seconds':>9} {'ns a store':>12} {'peak KiB':>9} {'at most, bytes':>15}")
+    for lines in (1, 1000):
+        write_words(path, stores(lines))
+        for steps in (250_000, 500_000, 1_000_000):
+            seconds, peak = run(path, steps)
+            name = f"{lines} lines, {steps} stores"
+            print(f"{name:32} {seconds:9.4f} {1e9 * seconds / steps:12.1f} {peak:9} {1024 * peak / steps:15.1f}")
+
+
+def print_beside(old, path):
+    """The loops by this program and by an old one, by turns: the best of 25 runs of each."""
+    print(f"{'1000000 acts':32} {'seconds':>9} {'old':>9} {'ratio':>6}")
+    for name, words in (("arithmetic", arithmetic()), ("memory", memory()), ("branches", branches())):
+        write_words(path, words)
+        both = [[run_once(program, path, 1_000_000, (2,))[0] for program in (PROGRAM, old)] for _ in range(25)]
+        new, before = (min(pair[i] for pair in both) for i in (0, 1))
+        print(f"{name + ' loop':32} {new:9.4f} {before:9.4f} {new / before:6.2f}")
 
 
 def main():
@@ -135,11 +175,13 @@ def main():
         print(f"{'image':32} {'seconds':>9} {'acts/s':>12} {'peak KiB':>9}")
         for name, words, acts, steps in rows:
             path = os.path.join(folder, "image.bin")
-            with open(path, "wb") as file:
-                file.write(b"".join(struct.pack("<I", word) for word in words))
+            write_words(path, words)
             seconds, peak = run(path, steps)
             print(f"{name:32} {seconds:9.4f} {acts / seconds:12.0f} {peak:9}")
         path = os.path.join(folder, "image.bin")
+        print_stores(path)
+        if len(sys.argv) > 1:
+            print_beside(sys.argv[1], path)
         for name, status in files(path):
             seconds, peak = run(path, 1000, (status,))
             print(f"{name:32} {seconds:9.4f} {'':12} {peak:9}")

@@ -432,6 +432,7 @@ impl Watch {
     }
 
     /// The refusal of an access that does not stray, by the rules on what the watch knows.
+    #[inline(always)]
     fn judge_known(&self, layout: &Layout, access: &Access) -> Option<Broken>
         ensures { (past : List PastEvent) (width : WidthValue) → LinesStand layout.now self.now.table past → rules.breach self.now.board layout.now (known self.now past) access.now width ≢ Some rules.Strays → result ≡ broken_at (address_of access.now) (rules.breach self.now.board layout.now (known self.now past) access.now width) }
     {

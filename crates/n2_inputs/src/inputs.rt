@@ -1,6 +1,6 @@
 //! All that a command asks for before its machine opens.
 
-ghost use Rattle.std.specs.Prelude.{◌≡◌, ◌≤◌, Some, length, All, IfOk};
+ghost use Rattle.std.specs.Prelude.{◌≡◌, ◌<◌, ◌+◌, Some, length, All, IfOk};
 ghost use Rattle.std.specs.List.{AllByRecursion};
 ghost use Rattle.n2_outside.specs.Files.{Files};
 ghost use Rattle.n2_elf.specs.Reading.{IsSized};
@@ -62,7 +62,7 @@ pub fn read_run<F: Folder>(
 ) -> Result<(Inputs, Vec<u32>), Failure>
     ensures asked { (files : Files) → F.files folder.old ≡ Some files → Gives (λ a. (a.0, a.1.items)) (asked_run files board.now (asked order.now)) result }
     ensures ready { IfOk result (λ a. IsReady a.0) }
-    ensures actors { IfOk result (λ a. All (λ actor. actor ≤ length a.0.board.core) a.1.items) }
+    ensures actors { IfOk result (λ a. All (λ actor. actor < length a.0.board.core + 1) a.1.items) }
     ensures folder { LeavesFolder (F.files folder.old) (F.files folder.new) (F.faults folder.old) (F.faults folder.new) result }
 {
     n2_parts::laws::valid_boards();

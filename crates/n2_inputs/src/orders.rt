@@ -1,6 +1,6 @@
 //! The files of orders.
 
-ghost use Rattle.std.specs.Prelude.{◌≡◌, ◌≤◌, Some, All, IfOk, false};
+ghost use Rattle.std.specs.Prelude.{◌≡◌, ◌<◌, ◌+◌, Some, All, IfOk, false};
 ghost use Rattle.n2_outside.specs.Files.{Files};
 ghost use Rattle.n2_order.specs.Orders.{asked};
 ghost use Rattle.n2_order.specs.Lists.{list_of};
@@ -17,7 +17,7 @@ use std::alloc::Global;
 fn list_in(alloc: Global, bytes: &[u8], cores: u32) -> Result<Vec<u32>, Failure>
     ensures list { Gives (λ list. list.items) (actors_in (list_of cores bytes.now)) result }
     ensures unread { ¬ ReadFails result }
-    ensures actors { IfOk result (λ list. All (λ actor. actor ≤ cores) list.items) }
+    ensures actors { IfOk result (λ list. All (λ actor. actor < cores + 1) list.items) }
 {
     Ok(read_list(alloc, bytes, cores)?)
 }
@@ -31,7 +31,7 @@ fn read_list_file<F: Folder>(
     cores: u32,
 ) -> Result<Vec<u32>, Failure>
     ensures list { (files : Files) → F.files folder.old ≡ Some files → Gives (λ list. list.items) (listed files name.now cores) result }
-    ensures actors { IfOk result (λ list. All (λ actor. actor ≤ cores) list.items) }
+    ensures actors { IfOk result (λ list. All (λ actor. actor < cores + 1) list.items) }
     ensures folder { LeavesFolder (F.files folder.old) (F.files folder.new) (F.faults folder.old) (F.faults folder.new) result }
 {
     let bytes = fetch_file(alloc, folder, name, Role::Order)?;
@@ -47,7 +47,7 @@ pub fn read_order<F: Folder>(
     cores: u32,
 ) -> Result<Vec<u32>, Failure>
     ensures list { (files : Files) → F.files folder.old ≡ Some files → Gives (λ list. list.items) (asked_list files (asked order.now) cores) result }
-    ensures actors { IfOk result (λ list. All (λ actor. actor ≤ cores) list.items) }
+    ensures actors { IfOk result (λ list. All (λ actor. actor < cores + 1) list.items) }
     ensures folder { LeavesFolder (F.files folder.old) (F.files folder.new) (F.faults folder.old) (F.faults folder.new) result }
     ensures unread { has_file (asked order.now) ≡ false → folder.new ≡ folder.old }
 {

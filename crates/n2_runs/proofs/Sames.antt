@@ -61,7 +61,7 @@ width_is Word Byte e = absurd (cc)
 width_is Word Half e = absurd (cc)
 width_is Word Word e = refl
 
-request_is : (r s : Request) → same_request r s ≡ true → r ≡ s
+pub request_is : (r s : Request) → same_request r s ≡ true → r ≡ s
 request_is (FillCode l) (FillCode m) e = ap FillCode (number l m e)
 request_is (FillData l) (FillData m) e = ap FillData (number l m e)
 request_is (WriteBack l ws) (WriteBack m vs) e = both (eqb l m) (same_words ws vs) e (λ p q. ap (λ x. WriteBack x ws) (number l m p) ∙ ap (WriteBack m) (words_is ws vs q))

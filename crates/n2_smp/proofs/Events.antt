@@ -23,11 +23,11 @@ use Rattle.n2_smp.proofs.Cores.{transferred_shared, transferred_reply}
 same_actor : (n : ℕ) → eqb n n ≡ true
 same_actor n = grind (arith, nat_tests)
 
-none_first : {X : Type 0} (xs : List X) → slice_get xs 0 ≡ None → xs ≡ []
+pub none_first : {X : Type 0} (xs : List X) → slice_get xs 0 ≡ None → xs ≡ []
 none_first [] e = refl
 none_first (x ∷ xs) e = absurd (cc)
 
-some_first : {X : Type 0} (xs : List X) (x : X) → slice_get xs 0 ≡ Some x → xs ≡ x ∷ drop 1 xs
+pub some_first : {X : Type 0} (xs : List X) (x : X) → slice_get xs 0 ≡ Some x → xs ≡ x ∷ drop 1 xs
 some_first [] x e = absurd (cc)
 some_first (y ∷ xs) x e = let d : y ≡ x = cc in ap (λ z. z ∷ xs) d
 

@@ -5,3 +5,4 @@ pub mod Machines
 pub mod Opening
 pub mod Quiet
 pub mod Following
+pub mod Asking

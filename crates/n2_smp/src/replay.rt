@@ -1,6 +1,6 @@
 //! Replay: a journal is compared, row by row, with the run along the order that it tells.
 
-ghost use Rattle.std.specs.Prelude.{◌≡◌, ◌≢◌, ℕ, ◌<◌, ◌≤◌, ◌↔◌, ◌+◌, ◌^◌, false, true, List, length, Ok};
+ghost use Rattle.std.specs.Prelude.{◌≡◌, ◌≢◌, ℕ, ◌<◌, ◌≤◌, ◌↔◌, ◌+◌, ◌^◌, false, true, List, length, Ok, IfSome};
 ghost use Rattle.n2_elf.specs.declared.image.Image.{Image as ImageValue};
 ghost use Rattle.n2_parts.specs.declared.board.Board.{Board as BoardValue};
 ghost use Rattle.n2_bus.specs.Transfer.{BusState};
@@ -8,14 +8,15 @@ ghost use Rattle.n2_journal.specs.declared.entry.Entry.{Entry as EntryValue};
 ghost use Rattle.n2_runs.specs.Machine.{Machine as Caching, start, turn};
 ghost use Rattle.n2_runs.specs.Knows.{IsBookKept};
 ghost use Rattle.n2_runs.specs.Recorded.{Records};
-ghost use Rattle.n2_runs.specs.Replay.{quiet_turn, quiet_turns, entry_turn, entry_row, entry_rows, tail_row, tail_rows, replayed};
+ghost use Rattle.n2_runs.specs.Replay.{added, quiet_turn, quiet_turns, entry_turn, entry_row, entry_rows, tail_row, tail_rows, replayed};
 ghost use Rattle.n2_smp.specs.Standing.{StandsFor, StandsAt, IsReady};
-ghost use Rattle.n2_smp.specs.Replayed.{Follows, FollowsRows, IsReplayed, IsQuietAt};
+ghost use Rattle.n2_smp.specs.Replayed.{Follows, FollowsRows, IsReplayed, IsQuietAt, requested, asks_same};
 
 use crate::machine::Machine;
-use crate::turns::has_room;
+use crate::turns::{has_room, request_of};
 use n2_board::Layout;
-use n2_cpu::{Core, Step};
+use n2_bus::Request;
+use n2_cpu::{Core, Plan, Step};
 use n2_journal::{Entry, Journal};
 
 /// The first row of a journal's text that differs from the run along its order, counted from 1: row 1
@@ -78,13 +79,46 @@ impl Machine {
         true
     }
 
+    /// The transfer that the next turn of an actor makes, if it makes one.
+    fn next_request(&self, actor: u32) -> Option<Request>
+        ensures request { (m : Caching) → StandsFor self.now m → IsBookKept self.now.board self.now.map m → result ≡ requested self.now.board self.now.map m actor }
+        ensures actor { IfSome result (λ _. actor ≤ length self.now.board.core) }
+    {
+        if !has_room(&self.journal) {
+            return None;
+        }
+        if actor as usize > self.cores.len() {
+            return None;
+        }
+        if actor as usize == self.cores.len() {
+            let event = self.script.event(&self.board)?;
+            return Some(request_of(event));
+        }
+        match self.cores[actor as usize].plan(&self.layout) {
+            Plan::Transfer(request) => Some(request),
+            Plan::Local => None,
+            Plan::Over => None,
+        }
+    }
+
+    /// Whether the next turn of an entry's actor asks for its transfer.
+    fn asks(&self, entry: &Entry) -> bool
+        ensures actor { result ≡ true → entry.now.actor ≤ length self.now.board.core }
+        ensures asks { (m : Caching) → StandsFor self.now m → IsBookKept self.now.board self.now.map m → result ≡ asks_same entry.now (added m (turn self.now.board self.now.map m entry.now.actor).machine) }
+    {
+        match self.next_request(entry.actor) {
+            Some(request) => is_same_request(&entry.request, &request),
+            None => false,
+        }
+    }
+
     /// The turn of an entry: its actor makes just this transfer and has this reply.
     fn entry_turn(&mut self, entry: &Entry) -> bool
         ensures follows { (m : Caching) → StandsFor self.old m → IsBookKept self.old.board self.old.map m → Follows self.new result (entry_turn self.old.board self.old.map entry.now m) }
         ensures board { self.new.board ≡ self.old.board }
         ensures map { self.new.map ≡ self.old.map }
     {
-        if entry.actor as usize > self.cores.len() {
+        if !self.asks(entry) {
             return false;
         }
         let before = self.journal.entries().len();
@@ -188,6 +222,12 @@ impl Machine {
     {
         self.rows(journal)
     }
+}
+
+fn is_same_request(request: &Request, other: &Request) -> bool
+    ensures { (result ≡ true) ↔ (request.now ≡ other.now) }
+{
+    *request == *other
 }
 
 fn is_same(entry: &Entry, made: &Entry) -> bool

@@ -97,7 +97,7 @@ pub fn turn_of_core(
 }
 
 /// What the device actor asks of the bus for an event.
-fn request_of(event: DeviceEvent) -> Request
+pub fn request_of(event: DeviceEvent) -> Request
     ensures { result ≡ transfers.request_for event }
 {
     match event {

@@ -12,7 +12,7 @@ pub returns-then-actor-len-clause-follows : goal.returns-then-actor-len-clause-f
 returns-then-actor-len-clause-follows c =
     let count = c.self.invariant.stands.count in
     let board = ap (λ (v : Parts). length v.board.core) c.self.view_is in
-    λ m h kept. is_off c.args.self.now (quiet_turn c.args.self.now.board c.args.self.now.map m c.args.actor) (no_core_quiet c.args.self.now.board c.args.self.now.map m kept.count c.args.actor (omega arith))
+    λ m h kept. is_off c.args.self.now (quiet_turn c.args.self.now.board c.args.self.now.map m c.args.actor) m (no_core_quiet c.args.self.now.board c.args.self.now.map m kept.count c.args.actor (omega arith)) h kept
 
 pub quiet_turn_of_core-requires : goal.quiet_turn_of_core-requires
 quiet_turn_of_core-requires c =
@@ -33,4 +33,4 @@ returns-clause-follows c =
     c.quiet_turn_of_core.new.core c.quiet_turn_of_core.result c.quiet_turn_of_core.ensures.quiet
     in
     subst (λ (v : Parts). (m : Machine) → StandsFor v m → IsBookKept v.board v.map m → Follows (record { board = c.self.inside.board; map = c.self.inside.layout; cores = slice_set c.self.inside.cores.items c.args.actor c.quiet_turn_of_core.new.core; bus = c.self.inside.bus; journal = c.self.inside.journal; script = c.self.inside.script }) c.quiet_turn_of_core.result (quiet_turn v.board v.map m c.args.actor)) c.self.view_is
-    (λ m h kept. made m h kept (stands_at _ c.self.invariant c.args.actor c.index_mut.result.now found m h))
+    (λ m h kept. made m h kept (stands_at _ c.self.invariant c.args.actor c.index_mut.result.now found m h) c.quiet_turn_of_core.ensures.same)

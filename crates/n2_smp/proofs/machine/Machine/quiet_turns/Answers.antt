@@ -1,4 +1,5 @@
-use Rattle.std.proofs.Common.{◌≡◌, ℕ, suc, ◌+◌, ◌-◌, ◌<◌, Bool, Option, Some, None, ap, sym, ◌∙◌, subst, arith}
+use Rattle.std.proofs.Common.{◌≡◌, ℕ, suc, ◌+◌, ◌-◌, ◌<◌, Bool, ap, sym, ◌∙◌, subst, arith}
+use Rattle.std.specs.Prelude.{Err}
 use Rattle.n2_parts.specs.declared.board.Board.{Board}
 use Rattle.n2_board.specs.AddressMap.{AddressMap}
 use Rattle.n2_runs.specs.Machine.{Machine}
@@ -31,13 +32,14 @@ returns-then-not-quiet_turn-clause-follows c =
     let e : c.args.count - c.loop-made._made ≡ suc (c.args.count - (c.loop-made._made + 1)) = omega arith in
     λ m h kept.
     let x = w.way m h kept in
-    is_off c.quiet_turn.new.self (quiet_turns c.args.self.now.board c.args.self.now.map c.args.actor c.args.count m)
-    (goes_off c.loop-made.self c.quiet_turn.new.self (quiet_turns c.args.self.now.board c.args.self.now.map c.args.actor c.args.count m)
+    let z = goes_off c.loop-made.self c.quiet_turn.new.self (quiet_turns c.args.self.now.board c.args.self.now.map c.args.actor c.args.count m)
     (λ (b : Board) (g : AddressMap) (y : Machine). quiet_turns b g c.args.actor (c.args.count - c.loop-made._made) y)
     (λ (b : Board) (g : AddressMap) (y : Machine). quiet_turns b g c.args.actor (c.args.count - c.loop-made._made) y)
-    (λ (b : Board) (g : AddressMap) (y : Machine). quiet_turn b g y c.args.actor) x None
+    (λ (b : Board) (g : AddressMap) (y : Machine). quiet_turn b g y c.args.actor) x (λ (y : Machine). Err y)
     (subst (λ (r : Bool). Follows c.quiet_turn.new.self r (quiet_turn c.loop-made.self.board c.loop-made.self.map x.state c.args.actor)) c.if-not-quiet_turn.true (c.quiet_turn.ensures.follows x.state x.stands x.kept))
-    (λ off. turns_off c.loop-made.self.board c.loop-made.self.map c.args.actor (c.args.count - (c.loop-made._made + 1)) (c.args.count - c.loop-made._made) x.state e off))
+    (λ y off. turns_off c.loop-made.self.board c.loop-made.self.map c.args.actor (c.args.count - (c.loop-made._made + 1)) (c.args.count - c.loop-made._made) x.state y e off)
+    in
+    is_off c.quiet_turn.new.self (quiet_turns c.args.self.now.board c.args.self.now.map c.args.actor c.args.count m) z.state z.is z.stands z.kept
 
 pub returns-clause-follows : goal.returns-clause-follows
 returns-clause-follows c =

@@ -22,7 +22,7 @@ use Rattle.n2_watch.specs.declared.past.Past.{Past}
 use Rattle.n2_watch.specs.declared.access.Access.TheVariants.{Bypass}
 use Rattle.n2_watch.specs.Discipline.{Knowledge, direction, bypass_breach, breach}
 use Rattle.n2_watch.specs.Book.{Book, knowledge, past_after}
-use Rattle.n2_watch.specs.World.{World, Transferred, transferred}
+use Rattle.n2_watch.specs.World.{World, transferred}
 use Rattle.n2_watch.specs.Noted.{word_access}
 use Rattle.n2_watch.specs.Shapes.{IsLetPast, access_of, accessed, past_accessed}
 use Rattle.n2_watch.specs.Watched.{Watched, IsMapOf, StandsFor}

@@ -1,15 +1,13 @@
 -- What a core does, by what it is about to do.
-use Rattle.std.proofs.Common.{◌≡◌, ℕ, ◌^◌, Bool, true, false, nat_le, ◌||◌, if◌then◌else◌, List, Option, Some, None, refl, sym, ap, subst, ◌∙◌}
+use Rattle.std.proofs.Common.{◌≡◌, ℕ, Bool, true, false, if◌then◌else◌, List, Option, Some, None, refl, sym, subst}
 use Rattle.n2_word.specs.declared.Width.{Width}
 use Rattle.n2_word.specs.Lines.{line, bypasses}
 use Rattle.n2_insn.specs.declared.DataOp.{DataOp}
 use Rattle.n2_insn.specs.declared.DataOp.TheVariants.{Initd, Initda, Flushd, Flushda}
-use Rattle.n2_exec.specs.declared.registers.Regs.{Regs}
 use Rattle.n2_exec.specs.declared.Asked.{Asked}
 use Rattle.n2_exec.specs.declared.Asked.TheVariants as asked
-use Rattle.n2_exec.specs.Registers.{raised, interrupted}
+use Rattle.n2_exec.specs.Registers.{raised}
 use Rattle.n2_parts.specs.declared.board.Board.{Board}
-use Rattle.n2_parts.specs.declared.stops.Stop.{Stop}
 use Rattle.n2_parts.specs.declared.stops.Stop.TheVariants.{Broke}
 use Rattle.n2_parts.specs.declared.stops.Act.{Act}
 use Rattle.n2_parts.specs.declared.stops.Act.TheVariants.{Retire}
@@ -27,14 +25,13 @@ use Rattle.n2_dcache.specs.Cache.{slot_at, own_set, has_line, filled}
 use Rattle.n2_watch.specs.declared.past.Past.{Past}
 use Rattle.n2_watch.specs.declared.past.Past.TheVariants.{Clean}
 use Rattle.n2_watch.specs.Book.{Book}
-use Rattle.n2_watch.specs.World.{World, Transferred, transferred}
-use Rattle.n2_front.specs.Front.{Front, with_regs, sampled, stopped, advanced, noted}
+use Rattle.n2_watch.specs.World.{World, transferred}
+use Rattle.n2_front.specs.Front.{with_regs, sampled, stopped, advanced, noted}
 use Rattle.n2_front.specs.Tasks.{Task, task_of}
 use Rattle.n2_front.specs.Tasks as tasks
 use Rattle.n2_cpu.specs.declared.aim.Aim.{Aim}
 use Rattle.n2_cpu.specs.declared.aim.Aim.TheVariants as aims
 use Rattle.n2_cpu.specs.declared.state.State.{State}
-use Rattle.n2_front.specs.Core.{Core}
 use Rattle.n2_front.specs.Turn.{Turned, turned, direct, back, filled_or, wants_line, wants_op, wants_task, wants_by, served_by, is_in_way, with_line, emptied, loads, stores, op_dropped, code_dropped, does_task, answered}
 use Rattle.n2_cpu.specs.Aims.{intent_of}
 use Rattle.n2_cpu.specs.Stands.{IsTurned, core_now}

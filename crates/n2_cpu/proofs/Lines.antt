@@ -1,5 +1,5 @@
 -- What each line that a cache holds keeps, as the cache changes.
-use Rattle.std.proofs.Common.{◌≡◌, ℕ, ◌<◌, inl, inr, Bool, true, false, not, if◌then◌else◌, List, ◌∷◌, length, Option, Some, None, option_map, refl, sym, ap, subst, ◌∙◌, arith}
+use Rattle.std.proofs.Common.{◌≡◌, ℕ, inl, inr, Bool, true, false, not, if◌then◌else◌, List, length, Option, Some, None, option_map, refl, sym, ap, subst, ◌∙◌}
 use Rattle.std.proofs.Math.ListN.{set}
 use Rattle.std.proofs.lemmas.List.{get_or-set_same, get_or-set_other, set_past}
 use Rattle.std.proofs.lemmas.Bool.{cases_eq, cases_lt}
@@ -8,22 +8,18 @@ use Rattle.n2_word.specs.declared.Width.{Width}
 use Rattle.n2_word.specs.Lines.{line}
 use Rattle.n2_insn.specs.declared.DataOp.{DataOp}
 use Rattle.n2_insn.specs.declared.DataOp.TheVariants.{Initd, Initda, Flushd, Flushda}
-use Rattle.n2_exec.specs.declared.registers.Regs.{Regs}
 use Rattle.n2_parts.specs.declared.board.Board.{Board}
-use Rattle.n2_parts.specs.declared.stops.Act.{Act}
-use Rattle.n2_parts.specs.declared.stops.Act.TheVariants.{Retire}
 use Rattle.n2_parts.specs.MemoryLines.{HasLine}
 use Rattle.n2_board.specs.declared.classes.Class.TheVariants.{Code}
 use Rattle.n2_board.specs.AddressMap.{AddressMap, class_of}
 use Rattle.n2_bus.specs.declared.request.Reply.{Reply}
 use Rattle.n2_dcache.specs.declared.Held.{Held}
-use Rattle.n2_dcache.specs.Cache.{slot_at, own_set, has_line, stored_in, stored, clean_line, filled, set_dropped, line_dropped}
+use Rattle.n2_dcache.specs.Cache.{slot_at, own_set, has_line, stored_in, stored, clean_line, filled, set_dropped}
 use Rattle.n2_watch.specs.declared.access.Access.TheVariants.{Cached}
 use Rattle.n2_watch.specs.declared.past.Past.{Past}
-use Rattle.n2_watch.specs.declared.past.Past.TheVariants.{Touch, Clean}
 use Rattle.n2_watch.specs.Book.{Book, knowledge}
 use Rattle.n2_watch.specs.Discipline.{breach}
-use Rattle.n2_watch.specs.Watched.{StandsFor, IsMapOf}
+use Rattle.n2_watch.specs.Watched.{IsMapOf}
 use Rattle.n2_watch.proofs.KeptSteps.{touch_memory}
 use Rattle.n2_front.specs.Turn.{op_dropped, with_line}
 use Rattle.n2_cpu.specs.Aims.{AreThere, AreCode}

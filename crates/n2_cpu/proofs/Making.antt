@@ -1,5 +1,5 @@
 -- A turn that a value made is the definition's next turn.
-use Rattle.std.proofs.Common.{◌≡◌, ℕ, ◌<◌, Bool, true, false, List, length, Option, Some, None, is_some, slice_get, refl, sym, ap, subst, ◌∙◌}
+use Rattle.std.proofs.Common.{◌≡◌, ℕ, ◌<◌, Bool, false, List, length, Option, Some, None, is_some, slice_get, refl, sym, ap, subst, ◌∙◌}
 use Rattle.n2_exec.specs.declared.registers.Regs.{Regs}
 use Rattle.n2_parts.specs.declared.board.Board.{Board}
 use Rattle.n2_parts.specs.declared.board.CoreRow.{CoreRow}
@@ -11,11 +11,10 @@ use Rattle.n2_bus.specs.declared.request.Reply.{Reply}
 use Rattle.n2_dcache.specs.declared.Held.{Held}
 use Rattle.n2_watch.specs.declared.past.Past.{Past}
 use Rattle.n2_watch.specs.Book.{Book}
-use Rattle.n2_watch.specs.World.{World, transferred}
+use Rattle.n2_watch.specs.World.{World}
 use Rattle.n2_cpu.specs.declared.aim.Aim.{Aim}
 use Rattle.n2_cpu.specs.declared.aim.Aim.TheVariants as aims
 use Rattle.n2_cpu.specs.declared.state.State.{State}
-use Rattle.n2_cpu.specs.declared.turns.Step.{Step}
 use Rattle.n2_cpu.specs.declared.turns.Step.TheVariants.{Made}
 use Rattle.n2_front.specs.Front.{Front}
 use Rattle.n2_front.specs.Core.{Core, stop_of}

@@ -1,5 +1,5 @@
 -- What is known of what a core is about to do.
-use Rattle.std.proofs.Common.{◌≡◌, ℕ, Bool, true, false, if◌then◌else◌, List, Option, Some, None, option_map, refl, sym, ap, subst, ◌∙◌}
+use Rattle.std.proofs.Common.{◌≡◌, ℕ, Bool, true, false, if◌then◌else◌, Option, Some, None, option_map, refl, sym, ap, ◌∙◌}
 use Rattle.n2_word.specs.declared.Width.TheVariants.{Word}
 use Rattle.n2_word.specs.Lines.{line}
 use Rattle.n2_exec.specs.declared.Outcome.{Outcome}
@@ -8,10 +8,8 @@ use Rattle.n2_exec.specs.Outcomes.{regs_of, asked_of}
 use Rattle.n2_exec.specs.Effect.{effect_of_word}
 use Rattle.n2_parts.specs.declared.board.Board.{Board}
 use Rattle.n2_parts.specs.declared.board.CoreRow.{CoreRow}
-use Rattle.n2_parts.specs.MemoryLines.{HasLine}
 use Rattle.n2_board.specs.declared.access.Violation.{Violation}
-use Rattle.n2_board.specs.declared.classes.Class.TheVariants.{Code}
-use Rattle.n2_board.specs.AddressMap.{AddressMap, class_of, address_map}
+use Rattle.n2_board.specs.AddressMap.{AddressMap, class_of}
 use Rattle.n2_board.specs.Access.{fetch_violation}
 use Rattle.n2_board.proofs.Reached.{fetch_line}
 use Rattle.n2_dcache.specs.Cache.{found}

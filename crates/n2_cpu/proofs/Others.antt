@@ -1,9 +1,7 @@
 -- What a turn or a request of one actor leaves of a core that is another's, and of what cores share.
-use Rattle.std.proofs.Common.{◌≡◌, ◌≢◌, ◌==◌, ℕ, ◌<◌, Bool, true, false, if◌then◌else◌, List, length, Option, Some, None, IsTrue, slice_get, refl, sym, ap, subst, ◌∙◌}
+use Rattle.std.proofs.Common.{◌≡◌, ◌≢◌, ◌==◌, ℕ, ◌<◌, Bool, true, false, if◌then◌else◌, List, length, Option, Some, None, IsTrue, slice_get, refl, sym, subst, ◌∙◌}
 use Rattle.std.proofs.lemmas.Bool.{eqb-true}
-use Rattle.n2_word.specs.declared.Width.{Width}
-use Rattle.n2_word.specs.declared.Width.TheVariants.{Word}
-use Rattle.n2_word.specs.Lines.{line, bypasses, without_bypass}
+use Rattle.n2_word.specs.Lines.{line}
 use Rattle.n2_elf.specs.declared.image.Image.{Image}
 use Rattle.n2_insn.specs.declared.DataOp.{DataOp}
 use Rattle.n2_insn.specs.declared.DataOp.TheVariants.{Initd, Initda, Flushd, Flushda}
@@ -13,14 +11,13 @@ use Rattle.n2_parts.specs.declared.board.MailboxRow.{MailboxRow}
 use Rattle.n2_board.specs.declared.guards.Guard.{Guard}
 use Rattle.n2_board.specs.AddressMap.{AddressMap}
 use Rattle.n2_bus.specs.declared.request.Request.{Request}
-use Rattle.n2_bus.specs.declared.request.Request.TheVariants.{Read, Write, WriteBack, FillCode, FillData, Sample}
+use Rattle.n2_bus.specs.declared.request.Request.TheVariants.{WriteBack, FillCode, FillData, Sample}
 use Rattle.n2_dcache.specs.declared.Held.{Held}
 use Rattle.n2_dcache.specs.Cache.{slot_at, own_set, has_line}
 use Rattle.n2_watch.specs.declared.past.Past.{Past}
 use Rattle.n2_watch.specs.Discipline.{breach}
-use Rattle.n2_watch.specs.Book.{Book, knowledge, owned_by, pointer_of, start_book}
+use Rattle.n2_watch.specs.Book.{knowledge, owned_by, pointer_of}
 use Rattle.n2_watch.specs.World.{World, transferred, start_world}
-use Rattle.n2_watch.specs.Kept.{IsPosted}
 use Rattle.n2_watch.specs.Shapes.{BypassAccess, IsLetPast, access_of, request_of, accessed, is_access}
 use Rattle.n2_watch.specs.Watched.{IsMapOf}
 use Rattle.n2_watch.specs.Watched as watched

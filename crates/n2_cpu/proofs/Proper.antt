@@ -15,7 +15,7 @@ use Rattle.n2_parts.specs.MemoryLines.{HasLine}
 use Rattle.n2_board.specs.declared.access.Route.TheVariants.{Bypassing}
 use Rattle.n2_board.specs.declared.access.Target.{Target}
 use Rattle.n2_board.specs.declared.access.Violation.{Violation}
-use Rattle.n2_board.specs.AddressMap.{AddressMap, address_map}
+use Rattle.n2_board.specs.AddressMap.{AddressMap}
 use Rattle.n2_board.specs.Access.{data_target}
 use Rattle.n2_bus.specs.declared.request.Request.{Request}
 use Rattle.n2_bus.specs.declared.request.Request.TheVariants.{Read, Write, WriteBack, FillCode, FillData, Sample}
@@ -24,7 +24,7 @@ use Rattle.n2_bus.proofs.Passing.{read_passes, write_passes, fills_pass, write_b
 use Rattle.n2_dcache.specs.declared.Held.{Held}
 use Rattle.n2_dcache.specs.Cache.{slot_at, own_set, has_line}
 use Rattle.n2_watch.specs.declared.past.Past.{Past}
-use Rattle.n2_watch.specs.declared.access.Access.TheVariants.{Cached, Bypass}
+use Rattle.n2_watch.specs.declared.access.Access.TheVariants.{Bypass}
 use Rattle.n2_watch.specs.Discipline.{Knowledge, direction, bypass_breach, breach}
 use Rattle.n2_watch.specs.Book.{Book, knowledge}
 use Rattle.n2_watch.specs.Watched.{IsMapOf}

@@ -1,5 +1,5 @@
 -- A core before its first turn.
-use Rattle.std.proofs.Common.{◌≡◌, ℕ, ◌<◌, ◌≤◌, ◌^◌, ◌==◌, nat_le, leb, eqb, not, Bool, true, List, [], ◌∷◌, length, Option, Some, None, slice_get, refl, sym, ap, subst, ◌∙◌, arith}
+use Rattle.std.proofs.Common.{◌≡◌, ℕ, ◌<◌, ◌≤◌, leb, eqb, not, Bool, List, [], ◌∷◌, length, Option, Some, None, slice_get, refl, sym, ap, subst, ◌∙◌, arith}
 use Rattle.std.specs.Prelude.{option_and_then}
 use Rattle.std.proofs.lemmas.Option.{slice_get_within, none-some}
 use Rattle.std.proofs.lemmas.Bool.{leb-true, and_parts}
@@ -11,7 +11,7 @@ use Rattle.n2_parts.specs.declared.board.Key.TheVariants as keys
 use Rattle.n2_parts.specs.declared.board.PartKind.TheVariants.{Top, Core}
 use Rattle.n2_parts.specs.Parts.{part_of}
 use Rattle.n2_parts.specs.Numbers.{is_between, is_place, core_numbers, number_fault, top_numbers}
-use Rattle.n2_parts.specs.Valid.{counts, early_faults, late_faults, first_fault, IsValid}
+use Rattle.n2_parts.specs.Valid.{counts, early_faults, first_fault, IsValid}
 use Rattle.n2_parts.proofs.Small.{none_both}
 use Rattle.n2_parts.proofs.Sound.{keeps, all_good}
 use Rattle.n2_board.specs.AddressMap.{AddressMap}
@@ -28,7 +28,6 @@ use Rattle.n2_watch.specs.Watched.{Watched, IsMapOf, IsGuardOf}
 use Rattle.n2_watch.specs.Watched as watched
 use Rattle.n2_front.specs.Core.{started_core}
 use Rattle.n2_cpu.specs.declared.state.Clock.{Clock}
-use Rattle.n2_cpu.specs.declared.state.State.{State}
 use Rattle.n2_cpu.specs.Aims.{AreThere, AreCode}
 use Rattle.n2_cpu.specs.Stands.{IsSound, HasSlots, StandsFor}
 

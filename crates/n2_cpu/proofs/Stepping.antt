@@ -14,7 +14,6 @@ use Rattle.n2_exec.specs.Registers.{is_waiting}
 use Rattle.n2_exec.specs.Outcomes.{regs_of, asked_of}
 use Rattle.n2_exec.specs.Effect.{effect_of_word}
 use Rattle.n2_parts.specs.declared.board.Board.{Board}
-use Rattle.n2_parts.specs.declared.board.CoreRow.{CoreRow}
 use Rattle.n2_parts.specs.declared.stops.Stop.{Stop}
 use Rattle.n2_parts.specs.MemoryLines.{HasLine}
 use Rattle.n2_board.specs.declared.classes.Class.{Class}
@@ -22,9 +21,9 @@ use Rattle.n2_board.specs.declared.classes.Class.TheVariants.{Code}
 use Rattle.n2_board.specs.declared.access.Violation.{Violation}
 use Rattle.n2_board.specs.declared.places.Place.{Place}
 use Rattle.n2_board.specs.declared.places.Place.TheVariants.{Memory}
-use Rattle.n2_board.specs.AddressMap.{AddressMap, address_map, class_of, place}
+use Rattle.n2_board.specs.AddressMap.{AddressMap, class_of, place}
 use Rattle.n2_board.specs.Access.{fetch_violation, fetch_at}
-use Rattle.n2_board.proofs.Reached.{memory_of_line, fetch_line}
+use Rattle.n2_board.proofs.Reached.{memory_of_line}
 use Rattle.n2_dcache.specs.declared.Held.{Held}
 use Rattle.n2_dcache.specs.Cache.{held_line, found, read_in}
 use Rattle.n2_dcache.proofs.Maps.{held_line_is}
@@ -36,9 +35,9 @@ use Rattle.n2_watch.specs.Watched.{IsMapOf}
 use Rattle.n2_front.specs.Front.{Front, with_regs}
 use Rattle.n2_front.specs.Tasks.{Task, task_of, task_breach, task_address, stop_for}
 use Rattle.n2_front.specs.Retire.{who}
-use Rattle.n2_front.specs.Core.{Core, TurnKind, SampleTurn, EvictTurn, StepTurn, turn_kind}
-use Rattle.n2_front.specs.Turn.{Intent, Samples, Evicts, Interrupts, Stops, FillsCode, Does, judged_task, executes, with_code, fetches, steps, intent_by, intent}
-use Rattle.n2_cpu.specs.Aims.{AreCode, held_word, IsMeant}
+use Rattle.n2_front.specs.Core.{Core}
+use Rattle.n2_front.specs.Turn.{Interrupts, Stops, FillsCode, Does, judged_task, executes, with_code, fetches, steps}
+use Rattle.n2_cpu.specs.Aims.{AreCode, held_word}
 
 -- ---- an instruction
 pub unchanged : (regs : Regs) (o : Outcome) (a : Asked) → a ≡ asked_of o → (a ≡ asked.Done → ⊥) → regs_of regs o ≡ regs

@@ -1,5 +1,5 @@
 -- Where an access strays, and how a judgement stops a core.
-use Rattle.std.proofs.Common.{◌≡◌, ℕ, ◌/◌, ◌%◌, ◌^◌, Bool, true, false, nat_lt, ◌==◌, ◌&&◌, if◌then◌else◌, List, Option, Some, None, Result, Ok, Err, option_map, slice_get, refl, ap, sym, ◌∙◌, subst}
+use Rattle.std.proofs.Common.{◌≡◌, ℕ, ◌/◌, ◌%◌, ◌^◌, Bool, true, false, nat_lt, ◌==◌, ◌&&◌, if◌then◌else◌, Option, Some, None, Result, Ok, Err, option_map, slice_get, refl, ap, sym, ◌∙◌}
 use Rattle.n2_word.specs.declared.Width.{Width}
 use Rattle.n2_word.specs.declared.Width.TheVariants.{Word}
 use Rattle.n2_word.specs.Lines.{line, bypasses}
@@ -26,8 +26,8 @@ use Rattle.n2_board.specs.Guards.{guard_of, passed_region}
 use Rattle.n2_watch.specs.declared.access.Access.{Access}
 use Rattle.n2_watch.specs.declared.access.Access.TheVariants.{Cached, Bypass, Fetch, Op}
 use Rattle.n2_watch.specs.declared.access.Broken.{Broken}
-use Rattle.n2_watch.specs.Past.{stale, covers, lowest, dirty, guards}
-use Rattle.n2_watch.specs.Discipline.{Knowledge, Breach, Strays, Breaks, if_stale, line_breach, cached_breach, bypass_breach, op_breach, mutex_breach, post_breach, side_breach, mailbox_breach, device_breach, lists, is_post, direction, violation, breach}
+use Rattle.n2_watch.specs.Past.{stale, lowest, dirty, guards}
+use Rattle.n2_watch.specs.Discipline.{Knowledge, Breach, Strays, Breaks, line_breach, cached_breach, bypass_breach, op_breach, mutex_breach, post_breach, mailbox_breach, device_breach, lists, is_post, direction, violation, breach}
 use Rattle.n2_watch.specs.Watched.{broken_at, address_of}
 use Rattle.n2_front.specs.Tasks.{Task, task_of, task_breach, task_address, stop_for}
 use Rattle.n2_front.specs.Tasks as tasks

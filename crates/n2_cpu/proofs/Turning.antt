@@ -1,24 +1,20 @@
 -- A turn of a value is the definition's turn.
-use Rattle.std.proofs.Common.{◌≡◌, ℕ, ◌+◌, ◌^◌, ◌<◌, ◌≤◌, Bool, true, false, nat_lt, if◌then◌else◌, List, length, Option, Some, None, is_some, slice_get, refl, sym, ap, subst, ◌∙◌, arith}
+use Rattle.std.proofs.Common.{◌≡◌, ℕ, ◌+◌, ◌<◌, ◌≤◌, Bool, true, false, nat_lt, if◌then◌else◌, List, Option, Some, None, is_some, slice_get, refl, sym, ap, subst, ◌∙◌, arith}
 use Rattle.std.specs.Option.{option_or}
 use Rattle.std.proofs.lemmas.Bool.{ltb-true}
 use Rattle.n2_exec.specs.declared.registers.Regs.{Regs}
-use Rattle.n2_exec.specs.declared.Asked.{Asked}
 use Rattle.n2_exec.specs.declared.Asked.TheVariants as asked
 use Rattle.n2_parts.specs.declared.board.Board.{Board}
 use Rattle.n2_parts.specs.declared.board.CoreRow.{CoreRow}
 use Rattle.n2_parts.specs.declared.stops.Stop.{Stop}
 use Rattle.n2_parts.specs.declared.stops.Stop.TheVariants as stops
 use Rattle.n2_parts.specs.declared.stops.Act.{Act}
-use Rattle.n2_board.specs.declared.guards.Guard.{Guard}
 use Rattle.n2_board.specs.AddressMap.{AddressMap}
 use Rattle.n2_bus.specs.declared.request.Request.{Request}
 use Rattle.n2_dcache.specs.declared.Held.{Held}
 use Rattle.n2_watch.specs.declared.past.Past.{Past}
-use Rattle.n2_watch.specs.Book.{Book}
-use Rattle.n2_watch.specs.Table.{slot_of}
 use Rattle.n2_watch.specs.World.{World, Transferred}
-use Rattle.n2_watch.specs.Watched.{Watched, IsGuardOf}
+use Rattle.n2_watch.specs.Watched.{IsGuardOf}
 use Rattle.n2_cpu.specs.declared.aim.Aim.{Aim}
 use Rattle.n2_cpu.specs.declared.aim.Aim.TheVariants as aims
 use Rattle.n2_cpu.specs.declared.state.Clock.{Clock}
@@ -26,7 +22,7 @@ use Rattle.n2_cpu.specs.declared.state.State.{State}
 use Rattle.n2_front.specs.Core.{Core, Ended, Spent, LogFull, ended_stop, stop_of, ended_after}
 use Rattle.n2_front.specs.Turn.{Intent, Turned, CoreTurn, answered, wants_by, wants, intent, served_by, local_after, core_after, turn_of, turn_with, core_turn}
 use Rattle.n2_cpu.specs.Aims.{intent_of, Keeps}
-use Rattle.n2_cpu.specs.Stands.{HasSlots, HasRoom, IsSound, HasRow, Holds, IsTurned, IsPart, IsMade, IsNext, StandsFor, core_now, with_registers, counted_stop, counted_local, counted}
+use Rattle.n2_cpu.specs.Stands.{HasRoom, IsSound, IsTurned, IsPart, IsMade, IsNext, StandsFor, core_now, with_registers, counted_stop, counted_local, counted}
 
 -- ---- a running core is the one that its value and its past events make
 pub running_parts : (o : Option Stop) (e : Option Ended) → option_or o (ended_stop e) ≡ None → (o ≡ None) × (e ≡ None)

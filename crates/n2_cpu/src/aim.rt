@@ -1,13 +1,11 @@
 //! What a core is about to do.
 
-ghost use Rattle.std.specs.Prelude.{◌≡◌, ℕ, ◌%◌, ◌<◌, ◌^◌, List, length};
+ghost use Rattle.std.specs.Prelude.{◌≡◌, ℕ, ◌%◌, ◌<◌, ◌^◌};
 ghost use Rattle.n2_word.specs.declared.Width.{Width as WidthValue};
 ghost use Rattle.n2_word.specs.Words.{extracted};
 ghost use Rattle.n2_exec.specs.Effect.{effect_of_word};
 ghost use Rattle.n2_parts.specs.declared.board.Board.{Board as BoardValue};
-ghost use Rattle.n2_watch.specs.declared.access.Access.TheVariants as accesses;
-ghost use Rattle.n2_watch.specs.Book.{Book, knowledge};
-ghost use Rattle.n2_watch.specs.Discipline.{breach};
+ghost use Rattle.n2_watch.specs.Book.{Book};
 ghost use Rattle.n2_watch.specs.Watched.{StandsFor};
 ghost use Rattle.n2_front.specs.Front.{Front};
 ghost use Rattle.n2_front.specs.Core.{Core};

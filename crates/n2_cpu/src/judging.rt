@@ -1,10 +1,8 @@
 //! How what a core is about to do breaks the discipline, if it does.
 
-ghost use Rattle.std.specs.Prelude.{◌≡◌, ◌≢◌, ℕ, Bool, List, Some, None, option_map, if◌then◌else◌};
+ghost use Rattle.std.specs.Prelude.{◌≡◌, ◌≢◌, ℕ, List, Some, None, option_map, if◌then◌else◌};
 ghost use Rattle.n2_word.specs.declared.Width.{Width as WidthValue};
-ghost use Rattle.n2_word.specs.Lines.{bypasses};
 ghost use Rattle.n2_parts.specs.declared.board.Board.{Board as BoardValue};
-ghost use Rattle.n2_board.specs.AddressMap.{AddressMap};
 ghost use Rattle.n2_board.specs.Access.{data_target};
 ghost use Rattle.n2_watch.specs.declared.past.Past.{Past as PastEvent};
 ghost use Rattle.n2_watch.specs.declared.access.Access.TheVariants as accesses;

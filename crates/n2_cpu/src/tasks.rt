@@ -1,6 +1,6 @@
 //! What a core does in a turn.
 
-ghost use Rattle.std.specs.Prelude.{◌≡◌, ℕ, ◌<◌, ◌+◌, ◌≤◌, Bool, true, false, not, List, ◌∷◌, length, None, Some, IsTrue, if◌then◌else◌};
+ghost use Rattle.std.specs.Prelude.{◌≡◌, ℕ, ◌<◌, ◌+◌, ◌≤◌, true, false, not, List, ◌∷◌, length, None, Some, IsTrue, if◌then◌else◌};
 ghost use Rattle.n2_word.specs.declared.Width.{Width as WidthValue};
 ghost use Rattle.n2_word.specs.Words.{is_aligned};
 ghost use Rattle.n2_word.specs.Lines.{line as line_number, without_bypass};

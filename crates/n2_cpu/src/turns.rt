@@ -1,6 +1,6 @@
 //! The turns of a core.
 
-ghost use Rattle.std.specs.Prelude.{◌≡◌, ℕ, ◌<◌, ◌+◌, ◌≤◌, Bool, List, length, None, Some, slice_get, is_some, IsTrue};
+ghost use Rattle.std.specs.Prelude.{◌≡◌, ℕ, ◌<◌, ◌+◌, ◌≤◌, List, length, None, Some, slice_get, is_some, IsTrue};
 ghost use Rattle.n2_exec.specs.Outcomes.{IsProper};
 ghost use Rattle.n2_parts.specs.declared.board.Board.{Board as BoardValue};
 ghost use Rattle.n2_parts.specs.declared.board.CoreRow.{CoreRow as CoreRowValue};

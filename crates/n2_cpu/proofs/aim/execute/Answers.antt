@@ -1,4 +1,4 @@
-use Rattle.std.proofs.Common.{◌≡◌, Some, None, sym, ap, ◌∙◌}
+use Rattle.std.proofs.Common.{◌≡◌, sym, ap, ◌∙◌}
 use Rattle.n2_exec.specs.declared.registers.Regs.{Regs}
 use Rattle.n2_exec.specs.declared.Asked.TheVariants.{Done}
 use Rattle.n2_exec.specs.Outcomes.{regs_of}

@@ -1,4 +1,4 @@
-use Rattle.std.proofs.Common.{Some, None, refl}
+use Rattle.std.proofs.Common.{refl}
 use Rattle.n2_cpu.proofs.Straying.{cached_strays, bypass_strays, fetch_strays, op_strays}
 use Rattle.n2_cpu.proofs.judging.strays.Goals as goal
 

@@ -1,5 +1,4 @@
-use Rattle.std.proofs.Common.{◌≡◌, Option, Some, None, true, refl, sym, ap, ◌∙◌}
-use Rattle.n2_front.specs.Turn.{served_by}
+use Rattle.std.proofs.Common.{Some, true, refl, sym, ◌∙◌}
 use Rattle.n2_cpu.proofs.Making.{makes_next, wanted_by}
 use Rattle.n2_cpu.proofs.state.State.answer.Goals as goal
 

@@ -1,4 +1,4 @@
-use Rattle.std.proofs.Common.{refl, subst, sym}
+use Rattle.std.proofs.Common.{refl}
 use Rattle.n2_cpu.proofs.Lines.{there_op}
 use Rattle.n2_cpu.proofs.state.State.clean.Goals as goal
 

@@ -1,6 +1,4 @@
-use Rattle.std.proofs.Common.{◌≡◌, None, ap, subst, sym}
-use Rattle.n2_exec.specs.declared.Asked.{Asked}
-use Rattle.n2_bus.specs.declared.request.Reply.{Reply}
+use Rattle.std.proofs.Common.{◌≡◌, None, ap, subst}
 use Rattle.n2_watch.specs.Book.{knowledge}
 use Rattle.n2_front.specs.Tasks.{Task, task_of, task_breach}
 use Rattle.n2_front.specs.Tasks as tasks

@@ -1,5 +1,4 @@
-use Rattle.std.proofs.Common.{refl, subst, sym}
-use Rattle.n2_cpu.specs.Aims.{AreCode}
+use Rattle.std.proofs.Common.{refl}
 use Rattle.n2_cpu.proofs.Lines.{code_filled}
 use Rattle.n2_cpu.proofs.state.State.fill_code.Goals as goal
 

@@ -1,5 +1,4 @@
-use Rattle.std.proofs.Common.{ap, sym, subst, ◌∙◌, arith}
-use Rattle.n2_cpu.specs.declared.state.Clock.{Clock}
+use Rattle.std.proofs.Common.{sym, subst}
 use Rattle.n2_cpu.specs.declared.state.State.{State}
 use Rattle.n2_cpu.specs.Stands.{IsSound}
 use Rattle.n2_cpu.proofs.Turning.{has_room, sound_counted}

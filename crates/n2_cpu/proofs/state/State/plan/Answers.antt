@@ -1,4 +1,4 @@
-use Rattle.std.proofs.Common.{◌≡◌, Option, Some, sym, ap, ◌∙◌}
+use Rattle.std.proofs.Common.{◌≡◌, Some, sym, ap, ◌∙◌}
 use Rattle.n2_bus.specs.declared.request.Request.{Request}
 use Rattle.n2_cpu.proofs.Proper.{wanted_proper}
 use Rattle.n2_cpu.proofs.state.State.plan.Goals as goal

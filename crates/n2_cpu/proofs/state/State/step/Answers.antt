@@ -1,4 +1,4 @@
-use Rattle.std.proofs.Common.{◌≡◌, Option, Some, None, false, refl, sym, ap, ◌∙◌}
+use Rattle.std.proofs.Common.{◌≡◌, Some, None, false, refl, sym, ap, ◌∙◌}
 use Rattle.n2_bus.specs.declared.request.Request.{Request}
 use Rattle.n2_front.specs.Core.{stop_of}
 use Rattle.n2_front.specs.Turn.{wants_by}

@@ -1,12 +1,12 @@
 -- The program counter and the exception address stay multiples of 4.
-use Rattle.std.proofs.Common.{◌≡◌, ℕ, ◌%◌, Bool, true, false, Option, Some, None, if◌then◌else◌, refl, sym, ap, subst, ◌∙◌}
+use Rattle.std.proofs.Common.{ℕ, ◌%◌, Bool, true, false, Option, Some, None, if◌then◌else◌, ap, ◌∙◌}
 use Rattle.n2_word.specs.declared.Width.TheVariants.{Word}
 use Rattle.n2_insn.specs.declared.Insn.{Insn}
 use Rattle.n2_insn.specs.Table.{table_insn}
 use Rattle.n2_exec.specs.declared.registers.Regs.{Regs}
 use Rattle.n2_exec.specs.declared.Outcome.{Outcome}
 use Rattle.n2_exec.specs.Registers.{passed_regs, loaded_regs, raised, interrupted, latched, is_waiting}
-use Rattle.n2_exec.specs.Outcomes.{regs_of, asked_of, loaded_value}
+use Rattle.n2_exec.specs.Outcomes.{regs_of, asked_of}
 use Rattle.n2_exec.specs.Effect.{effect_found, effect_of_word}
 use Rattle.n2_exec.specs.Follow.{Follows}
 use Rattle.n2_exec.proofs.Proper.{passed-follows, loaded-follows, raised-follows, follows}
@@ -18,7 +18,7 @@ use Rattle.n2_watch.specs.Discipline.{Breach, breach}
 use Rattle.n2_watch.specs.World.{World}
 use Rattle.n2_front.specs.Front.{Front, with_regs}
 use Rattle.n2_front.specs.Tasks.{Task, Done, Raise, Break, CodeOp, LineOp, Load, Store, LoadPast, StorePast, task_of, task_breach}
-use Rattle.n2_front.specs.Retire.{Acted, acted, who, done, judged, executed, fetched, retired}
+use Rattle.n2_front.specs.Retire.{acted, who, done, judged, executed, fetched, retired}
 use Rattle.n2_flat.specs.State.{IsAligned}
 
 after : (regs next : Regs) → Follows regs next → IsAligned regs → IsAligned next

@@ -1,9 +1,8 @@
 -- A load or a store past the caches that changes nothing of ownership, and nothing that was sent.
-use Rattle.std.proofs.Common.{◌≡◌, ℕ, ◌<◌, ◌==◌, Bool, true, false, not, List, [], Option, Some, None, Result, Ok, Err, IsTrue, length, get_or, slice_get, refl, sym, ap, subst, ◌∙◌, arith}
+use Rattle.std.proofs.Common.{◌≡◌, ℕ, Bool, true, not, List, [], Option, Some, None, Result, Ok, Err, slice_get, refl, sym, ap, subst, ◌∙◌}
 use Rattle.std.proofs.lemmas.Bool.{false≢true, eqb-true}
 use Rattle.n2_word.specs.declared.Width.{Width}
-use Rattle.n2_word.specs.Words.{is_aligned}
-use Rattle.n2_word.specs.Lines.{line, without_bypass}
+use Rattle.n2_word.specs.Lines.{line}
 use Rattle.n2_elf.specs.declared.image.Image.{Image}
 use Rattle.n2_exec.specs.declared.registers.Regs.{Regs}
 use Rattle.n2_exec.specs.Registers.{latched}
@@ -31,16 +30,15 @@ use Rattle.n2_bus.specs.declared.request.Reply.{Reply}
 use Rattle.n2_watch.specs.declared.past.Past.{Past}
 use Rattle.n2_watch.specs.declared.access.Access.TheVariants.{Bypass}
 use Rattle.n2_watch.specs.Discipline.{Knowledge, direction, bypass_breach, breach}
-use Rattle.n2_watch.specs.Book.{Book, owned_by, pointer_of, book_after, holders_after, sent_after, guards_touched, guards_read, guards_written, holders_read, holders_written, sent_written, holders_after_read, guards_after_read, holders_after_write, guards_after_write, sent_after_write, all_noted}
+use Rattle.n2_watch.specs.Book.{Book, owned_by, pointer_of, holders_after, sent_after, guards_touched, guards_read, guards_written, holders_read, holders_written, sent_written, holders_after_read, guards_after_read, holders_after_write, guards_after_write, sent_after_write, all_noted}
 use Rattle.n2_watch.specs.World.{World, shared, transferred}
-use Rattle.n2_watch.specs.Shapes.{BypassAccess, IsLetPast, request_of, accessed}
+use Rattle.n2_watch.specs.Shapes.{BypassAccess, IsLetPast, request_of}
 use Rattle.n2_watch.specs.Watched.{Watched, StandsFor}
-use Rattle.n2_watch.specs.Table.{slot_of}
-use Rattle.n2_watch.proofs.KeptDevices.{among, IsExchange, pointer_like}
+use Rattle.n2_watch.proofs.KeptDevices.{among, pointer_like}
 use Rattle.n2_watch.proofs.KeptTransfers.{exchange, place_same}
 use Rattle.n2_front.specs.Front.{Front}
 use Rattle.n2_front.specs.Tasks.{Task}
-use Rattle.n2_front.specs.Retire.{Acted, acted, who, regs_replied, done_past}
+use Rattle.n2_front.specs.Retire.{acted, who, regs_replied, done_past}
 use Rattle.n2_flat.specs.State.{CommonState, reads_alone, writes_alone, is_mailbox, is_shared, common_after}
 
 -- ---- a request that leaves alone what was sent, the holders and what the core owns

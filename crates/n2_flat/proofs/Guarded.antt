@@ -1,12 +1,10 @@
 -- A core after a load of a mailbox, or a store of a mutex or a mailbox.
-use Rattle.std.proofs.Common.{◌≡◌, ℕ, ◌<◌, ◌==◌, ◌&&◌, eqb, ltb, Bool, true, false, if◌then◌else◌, List, [], ◌∷◌, length, Option, Some, None, IsTrue, get_or, slice_get, refl, sym, ap, subst, ◌∙◌, arith}
+use Rattle.std.proofs.Common.{◌≡◌, ℕ, ◌<◌, ◌&&◌, eqb, Bool, true, false, if◌then◌else◌, List, length, Option, Some, None, IsTrue, get_or, slice_get, refl, sym, ap, subst, ◌∙◌}
 use Rattle.std.specs.Prelude.{option_map}
-use Rattle.std.proofs.lemmas.Bool.{false≢true, true≢false, eqb-true, ltb-true}
+use Rattle.std.proofs.lemmas.Bool.{false≢true, eqb-true, ltb-true}
 use Rattle.n2_word.specs.declared.Width.TheVariants.{Word}
 use Rattle.n2_word.specs.Lines.{line, without_bypass}
-use Rattle.n2_elf.specs.declared.image.Image.{Image}
 use Rattle.n2_exec.specs.declared.registers.Regs.{Regs}
-use Rattle.n2_exec.specs.Registers.{latched}
 use Rattle.n2_parts.specs.declared.board.Board.{Board}
 use Rattle.n2_parts.specs.declared.board.MailboxRow.{MailboxRow}
 use Rattle.n2_parts.specs.declared.board.Part.{Part}
@@ -14,7 +12,6 @@ use Rattle.n2_parts.specs.declared.board.PartKind.{PartKind}
 use Rattle.n2_parts.specs.declared.board.PartKind.TheVariants as kinds
 use Rattle.n2_parts.specs.declared.stops.Stop.{Stop}
 use Rattle.n2_parts.specs.declared.stops.Kind.TheVariants.{Lock}
-use Rattle.n2_board.specs.declared.classes.Class.{Class}
 use Rattle.n2_board.specs.declared.guards.Guard.{Guard}
 use Rattle.n2_board.specs.declared.guards.Guard.TheVariants.{Passed}
 use Rattle.n2_board.specs.declared.guards.Holder.{Holder}
@@ -27,13 +24,12 @@ use Rattle.n2_board.specs.Access.{data_target, target_at}
 use Rattle.n2_devices.specs.Devices.{is_word}
 use Rattle.n2_bus.specs.Wiring.{Wiring, wiring_of}
 use Rattle.n2_bus.specs.Transfer.{served}
-use Rattle.n2_bus.specs.declared.request.Request.{Request}
 use Rattle.n2_bus.specs.declared.request.Request.TheVariants.{Read, Write}
 use Rattle.n2_bus.specs.declared.request.Reply.{Reply}
 use Rattle.n2_bus.proofs.Registers.{is_word_at}
 use Rattle.n2_watch.specs.declared.past.Past.{Past}
 use Rattle.n2_watch.specs.declared.access.Access.TheVariants.{Bypass}
-use Rattle.n2_watch.specs.Discipline.{Knowledge, Breach, Breaks, direction, bypass_breach, device_breach, mailbox_breach, post_breach, breach}
+use Rattle.n2_watch.specs.Discipline.{Knowledge, Breach, Breaks, direction, bypass_breach, device_breach, mailbox_breach, breach}
 use Rattle.n2_watch.specs.Book.{Book, owned_by, pointer_of, knowledge, region_at, receiver_of, with_holder, all_noted, past_after, guards_touched}
 use Rattle.n2_watch.specs.World.{World, shared, transferred}
 use Rattle.n2_watch.specs.Shapes.{IsLetPast, accessed, past_accessed, access_with}
@@ -42,7 +38,7 @@ use Rattle.n2_watch.specs.Watched.{Watched, StandsFor}
 use Rattle.n2_watch.proofs.KeptLists.{element_at}
 use Rattle.n2_watch.proofs.KeptTransfers.{place_same}
 use Rattle.n2_front.specs.Retire.{who}
-use Rattle.n2_flat.specs.State.{CoreState, CommonState, IsAt, IsWatched, common_after, with_holders, with_sent, touched_list, taken_region, posted_region, guard_written, owned_if, event_noted, with_event, is_uart}
+use Rattle.n2_flat.specs.State.{CoreState, CommonState, IsAt, IsWatched, common_after, with_holders, touched_list, taken_region, posted_region, guard_written, owned_if, event_noted, with_event, is_uart}
 use Rattle.n2_flat.proofs.Noted.{core_with}
 use Rattle.n2_flat.proofs.Shared.{settled_all, write_world, write_touched, written_list, written_holders, unsent, read_world, read_touched}
 

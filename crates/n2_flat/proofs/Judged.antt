@@ -1,5 +1,5 @@
 -- From what a watch answers to what a core does.
-use Rattle.std.proofs.Common.{◌≡◌, ℕ, List, Option, Some, None, refl, sym, ap, subst, ◌∙◌}
+use Rattle.std.proofs.Common.{◌≡◌, ℕ, List, Option, Some, None, refl, sym, ap, subst}
 use Rattle.n2_word.specs.declared.Width.{Width}
 use Rattle.n2_parts.specs.declared.board.Board.{Board}
 use Rattle.n2_parts.specs.declared.stops.Stop.{Stop}

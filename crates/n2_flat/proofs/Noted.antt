@@ -1,5 +1,5 @@
 -- What a note keeps: the watch stands for one more event.
-use Rattle.std.proofs.Common.{◌≡◌, ℕ, ◌+◌, ◌≤◌, Bool, List, ◌∷◌, Option, None, length, refl, sym, ap, subst, arith}
+use Rattle.std.proofs.Common.{◌≡◌, ℕ, Bool, List, ◌∷◌, Option, None, sym, subst}
 use Rattle.n2_word.specs.declared.Width.{Width}
 use Rattle.n2_word.specs.Lines.{line}
 use Rattle.n2_insn.specs.declared.DataOp.{DataOp}
@@ -12,7 +12,7 @@ use Rattle.n2_watch.specs.declared.past.Past.TheVariants.{Touch, Clean}
 use Rattle.n2_watch.specs.declared.access.Access.TheVariants.{Cached}
 use Rattle.n2_watch.specs.Discipline.{breach}
 use Rattle.n2_watch.specs.Book.{Book, knowledge}
-use Rattle.n2_watch.specs.Watched.{Watched, StandsFor, IsWatchNoted, IsGuardOf}
+use Rattle.n2_watch.specs.Watched.{Watched, StandsFor, IsGuardOf}
 use Rattle.n2_flat.specs.State.{CoreState, IsWatched, HasSlots}
 
 -- the parts of a core after a note

@@ -1,5 +1,5 @@
 -- The plain board is valid.
-use Rattle.std.proofs.Common.{◌≡◌, None, refl}
+use Rattle.std.proofs.Common.{refl}
 use Rattle.std.specs.Int.RustNames.{count_ones}
 use Rattle.n2_parts.specs.Parts.{first_from, first_part}
 use Rattle.n2_parts.specs.Numbers.{top_numbers, memory_numbers, core_numbers, uart_numbers, region_numbers, number_fault}

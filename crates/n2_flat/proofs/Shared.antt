@@ -1,15 +1,13 @@
 -- A load or a store past the caches of a device that changes ownership, or of a UART.
-use Rattle.std.proofs.Common.{◌≡◌, ℕ, ◌<◌, ◌==◌, ◌&&◌, eqb, Bool, true, false, if◌then◌else◌, List, [], ◌∷◌, Option, Some, None, IsTrue, get_or, slice_get, refl, sym, ap, subst, inl, inr, ◌∙◌, arith}
+use Rattle.std.proofs.Common.{◌≡◌, ℕ, ◌&&◌, eqb, Bool, true, false, if◌then◌else◌, List, [], ◌∷◌, Option, Some, None, get_or, refl, sym, ap, subst, ◌∙◌}
 use Rattle.std.specs.Prelude.{option_map}
-use Rattle.std.proofs.lemmas.Bool.{false≢true, true≢false}
+use Rattle.std.proofs.lemmas.Bool.{true≢false}
 use Rattle.n2_word.specs.declared.Width.{Width}
 use Rattle.n2_word.specs.declared.Width.TheVariants.{Byte, Half, Word}
 use Rattle.n2_word.specs.Lines.{line, without_bypass}
-use Rattle.n2_elf.specs.declared.image.Image.{Image}
 use Rattle.n2_exec.specs.declared.registers.Regs.{Regs}
 use Rattle.n2_exec.specs.Registers.{latched}
 use Rattle.n2_parts.specs.declared.board.Board.{Board}
-use Rattle.n2_parts.specs.declared.board.MailboxRow.{MailboxRow}
 use Rattle.n2_parts.specs.declared.board.Part.{Part}
 use Rattle.n2_parts.specs.declared.board.PartKind.{PartKind}
 use Rattle.n2_parts.specs.declared.board.PartKind.TheVariants as kinds
@@ -23,24 +21,22 @@ use Rattle.n2_board.specs.declared.places.Place.TheVariants as places
 use Rattle.n2_board.specs.declared.access.Route.TheVariants.{Bypassing}
 use Rattle.n2_board.specs.AddressMap.{AddressMap, class_of, place}
 use Rattle.n2_board.specs.Access.{data_target, target_at}
-use Rattle.n2_bus.specs.Wiring.{Wiring, wiring_of}
+use Rattle.n2_bus.specs.Wiring.{wiring_of}
 use Rattle.n2_bus.specs.Transfer.{served}
 use Rattle.n2_bus.specs.declared.request.Request.{Request}
 use Rattle.n2_bus.specs.declared.request.Request.TheVariants.{Read, Write}
 use Rattle.n2_bus.specs.declared.request.Reply.{Reply}
 use Rattle.n2_watch.specs.declared.past.Past.{Past}
 use Rattle.n2_watch.specs.declared.access.Access.TheVariants.{Bypass}
-use Rattle.n2_watch.specs.Discipline.{Knowledge, Breach, direction, bypass_breach, breach}
-use Rattle.n2_watch.specs.Book.{Book, owned_by, pointer_of, knowledge, region_at, region_guard, receiver_of, with_holder, holders_read, holders_written, holders_after_read, holders_after_write, sent_written, sent_after_write, guards_read, guards_written, guards_after_read, guards_after_write, guards_touched, noted, all_noted, past_after}
+use Rattle.n2_watch.specs.Discipline.{Knowledge, direction, bypass_breach, breach}
+use Rattle.n2_watch.specs.Book.{Book, pointer_of, region_at, region_guard, receiver_of, with_holder, holders_read, holders_written, holders_after_read, holders_after_write, sent_written, sent_after_write, guards_read, guards_written, guards_after_read, guards_after_write, guards_touched, noted, all_noted, past_after}
 use Rattle.n2_watch.specs.World.{World, shared, transferred}
-use Rattle.n2_watch.specs.Shapes.{IsLetPast, accessed, past_accessed, request_of}
-use Rattle.n2_watch.specs.Noted.{word_access}
 use Rattle.n2_watch.specs.Table.{slot_of}
-use Rattle.n2_watch.specs.Watched.{Watched, StandsFor}
+use Rattle.n2_watch.specs.Watched.{Watched}
 use Rattle.n2_front.specs.Front.{Front}
 use Rattle.n2_front.specs.Tasks.{Task}
 use Rattle.n2_front.specs.Retire.{acted, who, regs_replied, done_past}
-use Rattle.n2_flat.specs.State.{CommonState, IsAt, common_after, with_holders, with_sent, touched_list, taken_region, posted_region, guard_written, owned_if, event_noted, with_event, is_uart}
+use Rattle.n2_flat.specs.State.{common_after, with_holders, with_sent, touched_list, taken_region, posted_region, guard_written, owned_if, event_noted, with_event, is_uart}
 
 -- ---- devices are accessed by whole words
 word_of : (b : Board) (map : AddressMap) (who : Knowledge) (class : Class) (part : Part) (offset core : ℕ) (width : Width) (store : Bool) (value number : ℕ) → bypass_breach b map who (target_at (places.Device part offset) class core width Bypassing (direction store)) store value number ≡ None → width ≡ Word

@@ -1,5 +1,5 @@
 -- The machine at the start is whole.
-use Rattle.std.proofs.Common.{◌≡◌, ◌⊎◌, ℕ, zero, suc, ◌+◌, ◌%◌, ◌<◌, ◌≤◌, ◌&&◌, eqb, ltb, Bool, true, false, leb, List, [], ◌∷◌, ◌++◌, length, map, Option, Some, None, IsTrue, get_or, slice_get, refl, sym, ap, subst, inl, inr, ◌∙◌, arith}
+use Rattle.std.proofs.Common.{◌≡◌, ◌⊎◌, ℕ, zero, suc, ◌+◌, ◌%◌, ◌<◌, ◌&&◌, eqb, Bool, true, false, leb, List, [], ◌∷◌, ◌++◌, length, map, Option, Some, None, slice_get, refl, sym, ap, subst, inl, inr, ◌∙◌, arith}
 use Rattle.std.specs.Prelude.{option_and_then}
 use Rattle.std.proofs.Common.{not}
 use Rattle.std.specs.List.{AllByRecursion}
@@ -10,16 +10,13 @@ use Rattle.n2_word.specs.Lines.{is_cache_size}
 use Rattle.n2_text.specs.Firsts.{unless}
 use Rattle.n2_elf.specs.declared.image.Image.{Image}
 use Rattle.n2_elf.specs.Reading.{IsSized}
-use Rattle.n2_exec.specs.declared.registers.Regs.{Regs}
 use Rattle.n2_parts.specs.declared.board.Board.{Board}
-use Rattle.n2_parts.specs.declared.board.BoardFault.{BoardFault}
 use Rattle.n2_parts.specs.declared.board.CoreRow.{CoreRow}
 use Rattle.n2_parts.specs.declared.board.Key.{Key}
 use Rattle.n2_parts.specs.declared.board.Key.TheVariants as keys
 use Rattle.n2_parts.specs.declared.board.PartKind.TheVariants.{Core}
 use Rattle.n2_parts.specs.Numbers.{core_numbers, number_fault, is_place}
-use Rattle.n2_parts.specs.Parts.{part_of, first_from, at_row}
-use Rattle.n2_parts.specs.Rules.{is_inside, bytes_from}
+use Rattle.n2_parts.specs.Parts.{part_of, first_from}
 use Rattle.n2_parts.specs.Valid.{IsValid}
 use Rattle.n2_parts.proofs.Sound.{keeps, all_good}
 use Rattle.n2_board.specs.declared.placement.OpenFault.{OpenFault}

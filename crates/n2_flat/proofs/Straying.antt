@@ -1,5 +1,5 @@
 -- Which accesses stray: those alone that the layout says stray.
-use Rattle.std.proofs.Common.{◌≡◌, ℕ, ◌%◌, ◌/◌, ◌^◌, Bool, true, false, ◌&&◌, ◌==◌, nat_lt, if◌then◌else◌, Option, Some, None, Result, Ok, Err, slice_get, refl, sym, ap, subst, ◌∙◌}
+use Rattle.std.proofs.Common.{◌≡◌, ℕ, ◌%◌, ◌/◌, ◌^◌, Bool, true, false, ◌&&◌, ◌==◌, nat_lt, if◌then◌else◌, Option, Some, None, Result, Ok, Err, slice_get, refl, sym, ap, ◌∙◌}
 use Rattle.std.specs.Prelude.{option_map}
 use Rattle.std.proofs.lemmas.Bool.{true≢false}
 use Rattle.n2_word.specs.declared.Width.{Width}
@@ -23,7 +23,7 @@ use Rattle.n2_board.specs.Guards.{guard_of, passed_region}
 use Rattle.n2_board.specs.Access.{data_target}
 use Rattle.n2_watch.specs.declared.access.Access.TheVariants as accesses
 use Rattle.n2_watch.specs.Past.{stale}
-use Rattle.n2_watch.specs.Discipline.{Breach, Strays, Breaks, Knowledge, if_stale, line_breach, gives, mutex_breach, lists, post_breach, is_post, side_breach, mailbox_breach, device_breach, direction, cached_breach, bypass_breach, breach}
+use Rattle.n2_watch.specs.Discipline.{Breach, Strays, Breaks, Knowledge, line_breach, gives, mutex_breach, lists, post_breach, is_post, side_breach, mailbox_breach, device_breach, direction, cached_breach, bypass_breach, breach}
 
 abbrev strays : Option Breach → Bool
 strays None = false

@@ -1,5 +1,5 @@
 -- From a task that was judged to what is done of it.
-use Rattle.std.proofs.Common.{◌≡◌, ℕ, ◌≤◌, length, Bool, List, Option, Some, None, Result, Ok, Err, OnOk, refl, sym, ap, subst, ◌∙◌}
+use Rattle.std.proofs.Common.{◌≡◌, ℕ, Bool, List, Option, Some, None, Result, Ok, Err, OnOk, sym, ap, subst, ◌∙◌}
 use Rattle.n2_word.specs.declared.Width.{Width}
 use Rattle.n2_word.specs.Lines.{line}
 use Rattle.n2_parts.specs.declared.board.Board.{Board}
@@ -17,7 +17,7 @@ use Rattle.n2_watch.proofs.KeptSteps.{touch_memory}
 use Rattle.n2_front.specs.Front.{Front, stopped}
 use Rattle.n2_front.specs.Tasks.{Task, task_address, task_breach}
 use Rattle.n2_front.specs.Retire.{Acted, acted, who, done, performed}
-use Rattle.n2_flat.specs.State.{CoreState, CommonState, IsAt, IsWatched, acted_by, stop_of}
+use Rattle.n2_flat.specs.State.{CoreState, CommonState, IsAt, IsWatched, stop_of}
 use Rattle.n2_flat.proofs.Judged.{is_unbroken, judged_done, judged_stop}
 
 pub on_ok : {A E : Type 0} (r : Result A E) (P Q : Type 0) → (P → Q) → OnOk r P → OnOk r Q

@@ -1,5 +1,5 @@
 -- Each act keeps the machine whole, and is the definition's.
-use Rattle.std.proofs.Common.{◌≡◌, ◌≢◌, ℕ, ◌<◌, ◌≤◌, Result, Ok, Err, OnOk, OnErr, get_or, Bool, true, false, List, [], ◌∷◌, length, map, Option, Some, None, IsTrue, slice_get, slice_set, refl, sym, ap, subst, inl, inr, ◌∙◌, arith}
+use Rattle.std.proofs.Common.{◌≡◌, ◌≢◌, ℕ, ◌<◌, ◌≤◌, Result, Ok, Err, OnOk, OnErr, get_or, true, false, List, length, map, Option, Some, None, IsTrue, slice_get, slice_set, refl, sym, ap, subst, inl, inr, ◌∙◌, arith}
 use Rattle.std.specs.Prelude.{option_map}
 use Rattle.std.proofs.lemmas.Option.{slice_get_within, slice_get-map, slice_get-get_or}
 use Rattle.std.proofs.lemmas.List.{map-set, length-set, length-map}
@@ -12,17 +12,15 @@ use Rattle.n2_exec.specs.Registers.{latched}
 use Rattle.n2_parts.specs.declared.board.DeviceEvent.{DeviceEvent}
 use Rattle.n2_parts.specs.declared.board.DeviceEvent.TheVariants as events
 use Rattle.n2_parts.specs.declared.board.Board.{Board}
-use Rattle.n2_parts.specs.declared.board.MailboxRow.{MailboxRow}
 use Rattle.n2_parts.specs.declared.stops.Stop.{Stop}
 use Rattle.n2_parts.specs.declared.stops.Act.TheVariants.{Retire, Sample, Device}
-use Rattle.n2_board.specs.declared.guards.Guard.{Guard}
 use Rattle.n2_board.specs.AddressMap.{AddressMap}
 use Rattle.n2_bus.specs.Wiring.{Wiring, wiring_of, proper}
 use Rattle.n2_bus.specs.Transfer.{served, request_for}
 use Rattle.n2_bus.specs.declared.request.Request.TheVariants as requests
 use Rattle.n2_bus.specs.declared.request.Reply.{Reply}
 use Rattle.n2_watch.specs.declared.past.Past.{Past}
-use Rattle.n2_watch.specs.Book.{Book, owned_by, pointer_of}
+use Rattle.n2_watch.specs.Book.{Book}
 use Rattle.n2_watch.specs.World.{World, shared, transferred}
 use Rattle.n2_watch.specs.Kept.{IsKept}
 use Rattle.n2_watch.specs.Shapes.{HasWorldShape, is_access, HasWords}
@@ -35,8 +33,8 @@ use Rattle.n2_front.specs.Front.{Front}
 use Rattle.n2_front.specs.Retire.{Acted, acted, retired}
 use Rattle.n2_front.proofs.KeptActs.{retired_kept, retired_shape}
 use Rattle.n2_front.proofs.Others.{guards_left, pointers_left}
-use Rattle.n2_runs.specs.FlatRun.{Flat, act, retires, samples, sampled_by, with_core, unless_stopped}
-use Rattle.n2_flat.specs.State.{CoreState, CommonState, State, IsAt, IsCommon, IsWatched, IsWhole, IsAligned, front_of, past_of, machine_of, acted_by, common_after}
+use Rattle.n2_runs.specs.FlatRun.{act, retires, samples, sampled_by, with_core, unless_stopped}
+use Rattle.n2_flat.specs.State.{CoreState, CommonState, State, IsAt, IsWatched, IsWhole, IsAligned, front_of, past_of, machine_of, acted_by, common_after}
 use Rattle.n2_flat.proofs.Alone.{IsAlone, alone_book, stands_on}
 use Rattle.n2_flat.proofs.Aligned.{retired_aligned}
 

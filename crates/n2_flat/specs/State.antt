@@ -1,5 +1,5 @@
 -- What the flat machine keeps, beside what the definition has, and when it is whole.
-use Rattle.std.specs.Prelude.{◌≡◌, ℕ, ◌%◌, ◌≤◌, ◌<◌, List, [], ◌∷◌, length, map, Bool, true, false, not, ◌==◌, if◌then◌else◌, IsTrue, Option, Some, None, option_map, slice_get, get_or}
+use Rattle.std.specs.Prelude.{◌≡◌, ℕ, ◌%◌, ◌<◌, List, [], ◌∷◌, length, map, Bool, true, false, not, ◌==◌, if◌then◌else◌, IsTrue, Option, Some, None, option_map, slice_get, get_or}
 use Rattle.n2_exec.specs.declared.registers.Regs.{Regs}
 use Rattle.n2_elf.specs.declared.image.Image.{Image}
 use Rattle.n2_parts.specs.declared.board.Board.{Board}

@@ -1,6 +1,6 @@
 //! What all cores share: the bus, what writes put into the queues of UARTs, and who holds each region.
 
-ghost use Rattle.std.specs.Prelude.{◌≡◌, ◌∷◌, ◌++◌, ◌<◌, ◌^◌, [], ℕ, List, IsTrue, IfOk, OnOk, OnErr, length, slice_set, get_or};
+ghost use Rattle.std.specs.Prelude.{◌≡◌, ◌∷◌, ◌++◌, ◌<◌, [], ℕ, List, IsTrue, IfOk, OnOk, OnErr, slice_set, get_or};
 ghost use Rattle.n2_word.specs.Words.{is_aligned};
 ghost use Rattle.n2_word.specs.Lines.{line as line_number};
 ghost use Rattle.n2_parts.specs.MemoryLines.{HasLine};

@@ -1,8 +1,7 @@
 //! A core of the flat machine: its front, and the watch that judges it.
 
-ghost use Rattle.std.specs.Prelude.{◌≡◌, ◌≢◌, ◌∷◌, [], ◌+◌, ◌<◌, ◌≤◌, ◌^◌, ℕ, List, Bool, true, false, IsTrue, Option, Some, None, Ok, Err, OnOk, OnErr, length};
+ghost use Rattle.std.specs.Prelude.{◌≡◌, ◌≢◌, ◌<◌, ℕ, Option, Some, None, Ok, Err, OnOk, OnErr};
 ghost use Rattle.n2_word.specs.declared.Width.{Width as WidthValue};
-ghost use Rattle.n2_word.specs.Words.{is_aligned};
 ghost use Rattle.n2_word.specs.Lines.{line as line_number};
 ghost use Rattle.n2_parts.specs.declared.board.Board.{Board as BoardValue};
 ghost use Rattle.n2_board.specs.AddressMap.{AddressMap};
@@ -10,12 +9,12 @@ ghost use Rattle.n2_watch.specs.declared.past.Past.TheVariants as events;
 ghost use Rattle.n2_watch.specs.declared.access.Access.TheVariants as accesses;
 ghost use Rattle.n2_watch.specs.Book.{Book};
 ghost use Rattle.n2_watch.specs.Discipline as rules;
-ghost use Rattle.n2_watch.specs.Discipline.{Breach, Strays, Breaks, breach};
+ghost use Rattle.n2_watch.specs.Discipline.{Strays, Breaks, breach};
 ghost use Rattle.n2_watch.specs.Watched.{StandsFor, address_of};
-ghost use Rattle.n2_front.specs.Front.{noted, advanced, stopped};
+ghost use Rattle.n2_front.specs.Front.{noted, stopped};
 ghost use Rattle.n2_front.specs.Tasks as tasks;
-ghost use Rattle.n2_front.specs.Retire.{who, done, performed};
-ghost use Rattle.n2_flat.specs.State.{IsWatched, IsAt, HasSlots, acted_by, stop_of};
+ghost use Rattle.n2_front.specs.Retire.{who};
+ghost use Rattle.n2_flat.specs.State.{IsWatched, HasSlots, stop_of};
 
 use crate::common::Common;
 use crate::events::Events;

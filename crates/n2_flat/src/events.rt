@@ -1,6 +1,6 @@
 //! The past events of a core as a list that grows.
 
-ghost use Rattle.std.specs.Prelude.{◌≡◌, ◌∷◌, ◌<◌, ◌^◌, [], List, length, reverse, OnOk, OnErr};
+ghost use Rattle.std.specs.Prelude.{◌≡◌, ◌∷◌, ◌<◌, [], List, reverse, OnOk, OnErr};
 ghost use Rattle.n2_watch.specs.declared.past.Past.{Past as PastEvent};
 ghost use Rattle.n2_flat.specs.State.{event_noted, with_event};
 

@@ -1,6 +1,6 @@
 //! The flat machine.
 
-ghost use Rattle.std.specs.Prelude.{◌≡◌, ◌↔◌, ◌<◌, ℕ, IsTrue, OnOk, OnErr, IfOk, Some, None, [], length, slice_get, slice_set, reverse, get_or};
+ghost use Rattle.std.specs.Prelude.{◌≡◌, ◌↔◌, ◌<◌, IsTrue, OnOk, OnErr, Some, None, [], length, slice_get, reverse, get_or};
 ghost use Rattle.n2_word.specs.declared.Width.TheVariants.{Word};
 ghost use Rattle.n2_word.specs.Words.{is_aligned};
 ghost use Rattle.n2_word.specs.Lines.{line as line_number};
@@ -9,10 +9,8 @@ ghost use Rattle.n2_parts.specs.Valid.{IsValid};
 ghost use Rattle.n2_memory.specs.Memories.{read_at, line_at};
 ghost use Rattle.n2_bus.specs.Wiring.{wiring_of, proper};
 ghost use Rattle.n2_bus.specs.Transfer.{request_for};
-ghost use Rattle.n2_watch.specs.World.{transferred};
-ghost use Rattle.n2_front.specs.Retire.{retired};
-ghost use Rattle.n2_runs.specs.FlatRun.{act as acted_by, sampled_by, unless_stopped};
-ghost use Rattle.n2_flat.specs.State.{CoreState, IsWhole, IsActOf, IsAt, IsWatched, IsAligned, machine_of, acted_by as with_common, common_after};
+ghost use Rattle.n2_runs.specs.FlatRun.{act as acted_by, sampled_by};
+ghost use Rattle.n2_flat.specs.State.{CoreState, IsWhole, IsActOf, IsAt, IsWatched, IsAligned, machine_of, acted_by as with_common};
 
 use crate::common::Common;
 use crate::cores::FlatCore;

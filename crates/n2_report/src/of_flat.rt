@@ -1,6 +1,6 @@
 //! The flat report of a flat machine.
 
-ghost use Rattle.std.specs.Prelude.{◌≡◌, ◌<◌, ◌+◌, ◌*◌, ◌^◌, ℕ, ◌++◌, map, length, IfOk, OnOk, OnErr};
+ghost use Rattle.std.specs.Prelude.{◌≡◌, ◌<◌, ◌+◌, ◌*◌, ◌^◌, ℕ, ◌++◌, map, IfOk, OnOk};
 ghost use Rattle.n2_word.specs.Lines.{line as line_number};
 ghost use Rattle.n2_parts.specs.MemoryLines.{HasLine};
 ghost use Rattle.n2_flat.specs.State.{machine_of};

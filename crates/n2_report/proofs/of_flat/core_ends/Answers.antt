@@ -1,4 +1,4 @@
-use Rattle.std.proofs.Common.{◌≡◌, ℕ, ◌+◌, List, ◌∷◌, ◌++◌, [], map, drop, refl, sym, ap, ◌∙◌, arith}
+use Rattle.std.proofs.Common.{◌≡◌, ◌+◌, List, ◌∷◌, ◌++◌, [], map, drop, ap, ◌∙◌, arith}
 use Rattle.n2_exec.specs.declared.registers.Regs.{Regs}
 use Rattle.n2_watch.proofs.KeptLists.{element_at}
 use Rattle.n2_flat.specs.State.{front_of}

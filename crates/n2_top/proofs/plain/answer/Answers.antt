@@ -1,4 +1,4 @@
-use Rattle.std.proofs.Common.{◌≡◌, ℕ, ◌<◌, ◌∷◌, [], List, Option, map, subst, refl, sym, ap, ◌∙◌, arith}
+use Rattle.std.proofs.Common.{◌≡◌, ℕ, ◌<◌, ◌∷◌, [], List, Option, map, subst, sym, ap, ◌∙◌, arith}
 use Rattle.std.specs.Prelude.{replicate}
 use Rattle.n2_elf.specs.declared.image.Image.{Image}
 use Rattle.n2_parts.specs.declared.board.Board.{Board}
@@ -8,11 +8,10 @@ use Rattle.n2_board.specs.AddressMap.{AddressMap}
 use Rattle.n2_runs.specs.FlatRun.{Flat, flat, flat_start}
 use Rattle.n2_watch.proofs.KeptLists.{element_at}
 use Rattle.n2_flat.specs.PlainBoard.{plain_board}
-use Rattle.n2_flat.specs.State.{machine_of, front_of}
+use Rattle.n2_flat.specs.State.{machine_of}
 use Rattle.n2_front.specs.Front.{Front}
 use Rattle.n2_report.specs.Stops.{status_of}
 use Rattle.n2_report.specs.OfFlat.{flat_report}
-use Rattle.n2_top.specs.declared.answers.Answer.{Answer}
 use Rattle.n2_top.specs.Plain.{plain_start, plain_run, plain_answer}
 use Rattle.n2_top.proofs.Acts.{one_stop, small_status, plain_begins}
 use Rattle.n2_top.proofs.plain.answer.Goals as goal

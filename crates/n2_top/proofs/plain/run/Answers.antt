@@ -1,9 +1,8 @@
-use Rattle.std.proofs.Common.{◌≡◌, ℕ, ◌+◌, ◌-◌, true, length, refl, sym, ap, ◌∙◌, arith}
+use Rattle.std.proofs.Common.{◌≡◌, ◌+◌, ◌-◌, length, sym, ap, ◌∙◌, arith}
 use Rattle.std.specs.Prelude.{replicate}
 use Rattle.std.specs.Option.{is_some}
 use Rattle.n2_parts.specs.declared.board.Board.{Board}
 use Rattle.n2_parts.specs.declared.stops.Act.TheVariants.{Retire}
-use Rattle.n2_parts.specs.declared.stops.Stop.{Stop}
 use Rattle.n2_runs.specs.FlatRun.{Flat, act, flat}
 use Rattle.n2_watch.proofs.KeptLists.{element_at}
 use Rattle.n2_flat.specs.PlainBoard.{plain_board}

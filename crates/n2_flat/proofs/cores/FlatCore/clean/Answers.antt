@@ -1,4 +1,4 @@
-use Rattle.std.proofs.Common.{◌≡◌, ℕ, None, refl, subst}
+use Rattle.std.proofs.Common.{refl, subst}
 use Rattle.n2_watch.specs.declared.past.Past.TheVariants.{Clean}
 use Rattle.n2_flat.specs.State.{CoreState, IsWatched}
 use Rattle.n2_flat.proofs.Noted.{core_with, watched_on, cleaned_at}

@@ -1,7 +1,7 @@
 use Rattle.std.proofs.Common.{◌≡◌, ap, ◌∙◌}
 use Rattle.n2_exec.specs.declared.registers.Regs.{Regs}
 use Rattle.n2_exec.specs.declared.Asked.{Asked}
-use Rattle.n2_exec.specs.Outcomes.{regs_of, asked_of}
+use Rattle.n2_exec.specs.Outcomes.{regs_of}
 use Rattle.n2_exec.specs.Effect.{effect_of_word}
 use Rattle.n2_front.specs.Tasks.{task_of}
 use Rattle.n2_front.specs.Retire.{performed, with_word, executed}

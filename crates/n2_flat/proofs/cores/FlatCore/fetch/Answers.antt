@@ -1,4 +1,4 @@
-use Rattle.std.proofs.Common.{◌≡◌, ℕ, Option, Some, None, ap, ◌∙◌}
+use Rattle.std.proofs.Common.{◌≡◌, ℕ, ap, ◌∙◌}
 use Rattle.n2_word.specs.declared.Width.TheVariants.{Word}
 use Rattle.n2_word.specs.Lines.{line}
 use Rattle.n2_memory.specs.Memories.{read_at}

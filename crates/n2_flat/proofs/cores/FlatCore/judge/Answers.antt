@@ -1,4 +1,4 @@
-use Rattle.std.proofs.Common.{◌≡◌, ℕ, Option, Some, None, ap, subst, ◌∙◌}
+use Rattle.std.proofs.Common.{◌≡◌, Option, Some, None, ap, subst, ◌∙◌}
 use Rattle.n2_parts.specs.declared.stops.Stop.{Stop}
 use Rattle.n2_watch.specs.Discipline.{Strays, breach}
 use Rattle.n2_watch.specs.Watched.{StandsFor, address_of}

@@ -1,4 +1,4 @@
-use Rattle.std.proofs.Common.{◌≡◌, ℕ, Option, Some, None, Result, Ok, Err, ap, sym, ◌∙◌}
+use Rattle.std.proofs.Common.{◌≡◌, Option, Err, ap, sym}
 use Rattle.n2_board.specs.declared.access.Violation.TheVariants.{Stray}
 use Rattle.n2_board.specs.declared.access.Route.TheVariants.{Cached}
 use Rattle.n2_board.specs.Access.{data_target}

@@ -1,7 +1,6 @@
-use Rattle.std.proofs.Common.{◌≡◌, ℕ, refl, subst, true, false}
+use Rattle.std.proofs.Common.{subst}
 use Rattle.n2_flat.specs.State.{CoreState, IsWatched}
 use Rattle.n2_flat.proofs.Noted.{core_with, has_slots}
-use Rattle.n2_flat.proofs.Tasked.{inside_memory}
 use Rattle.n2_flat.proofs.cores.FlatCore.line_op_let.Goals as goal
 
 pub returns-clause-watched : goal.returns-clause-watched

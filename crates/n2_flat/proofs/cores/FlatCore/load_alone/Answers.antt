@@ -1,23 +1,20 @@
-use Rattle.std.proofs.Common.{◌≡◌, ℕ, Bool, true, false, Some, None, Ok, List, IsTrue, refl, sym, ap, subst, ◌∙◌}
+use Rattle.std.proofs.Common.{◌≡◌, ℕ, true, false, None, Ok, IsTrue, sym, ap, subst, ◌∙◌}
 use Rattle.n2_word.specs.Lines.{without_bypass}
 use Rattle.n2_exec.specs.declared.registers.Regs.{Regs}
-use Rattle.n2_exec.specs.Registers.{latched, loaded_regs, passed_regs}
+use Rattle.n2_exec.specs.Registers.{latched, loaded_regs}
 use Rattle.n2_board.specs.declared.access.Route.TheVariants.{Bypassing}
 use Rattle.n2_board.specs.AddressMap.{AddressMap, place}
 use Rattle.n2_board.specs.Access.{data_target}
 use Rattle.n2_bus.specs.Wiring.{Wiring, wiring_of, proper}
-use Rattle.n2_bus.specs.declared.request.Request.{Request}
-use Rattle.n2_bus.specs.declared.request.Request.TheVariants.{Read, Write}
-use Rattle.n2_watch.specs.declared.past.Past.{Past}
+use Rattle.n2_bus.specs.declared.request.Request.TheVariants.{Read}
 use Rattle.n2_watch.specs.Discipline.{direction}
 use Rattle.n2_watch.specs.World.{World, shared, transferred}
 use Rattle.n2_watch.specs.Shapes.{BypassAccess}
-use Rattle.n2_front.specs.Front.{Front}
 use Rattle.n2_front.specs.Tasks as tasks
 use Rattle.n2_front.specs.Retire.{acted, who, done_past}
-use Rattle.n2_flat.specs.State.{CoreState, CommonState, IsWatched, reads_alone, writes_alone, common_after}
+use Rattle.n2_flat.specs.State.{CoreState, CommonState, IsWatched, reads_alone, common_after}
 use Rattle.n2_flat.proofs.Noted.{core_with}
-use Rattle.n2_flat.proofs.Alone.{read_alone, write_alone, read_mail, write_mail, alone_done, alone_stands, past_reaches}
+use Rattle.n2_flat.proofs.Alone.{read_alone, read_mail, alone_done, alone_stands, past_reaches}
 use Rattle.n2_flat.proofs.cores.FlatCore.load_alone.Goals as goal
 
 pub transfer-reply-requires : goal.transfer-reply-requires

@@ -1,4 +1,4 @@
-use Rattle.std.proofs.Common.{◌≡◌, ℕ, refl, subst, true, false}
+use Rattle.std.proofs.Common.{subst, false}
 use Rattle.n2_flat.specs.State.{CoreState, IsWatched}
 use Rattle.n2_flat.proofs.Noted.{core_with, has_slots}
 use Rattle.n2_flat.proofs.Tasked.{inside_memory}

@@ -1,35 +1,25 @@
-use Rattle.std.proofs.Common.{◌≡◌, ℕ, Bool, true, false, Some, None, Ok, List, Option, IsTrue, get_or, refl, sym, ap, subst, ◌∙◌}
+use Rattle.std.proofs.Common.{◌≡◌, ℕ, Bool, false, None, Ok, Option, IsTrue, refl, sym, ap, subst, ◌∙◌}
 use Rattle.n2_word.specs.Lines.{without_bypass}
-use Rattle.n2_word.specs.declared.Width.{Width}
 use Rattle.n2_word.specs.declared.Width.TheVariants.{Word}
-use Rattle.n2_word.specs.Words.{is_aligned}
 use Rattle.n2_exec.specs.declared.registers.Regs.{Regs}
-use Rattle.n2_exec.specs.Registers.{latched, loaded_regs, passed_regs}
+use Rattle.n2_exec.specs.Registers.{latched, loaded_regs}
 use Rattle.n2_board.specs.declared.access.Route.TheVariants.{Bypassing}
-use Rattle.n2_board.specs.declared.guards.Guard.{Guard}
 use Rattle.n2_board.specs.declared.guards.Holder.TheVariants.{ByCore}
-use Rattle.n2_board.specs.declared.places.Place.{Place}
-use Rattle.n2_board.specs.declared.places.Place.TheVariants.{Device}
-use Rattle.n2_board.specs.AddressMap.{AddressMap, place}
+use Rattle.n2_board.specs.AddressMap.{AddressMap}
 use Rattle.n2_board.specs.Access.{data_target}
 use Rattle.n2_bus.specs.Wiring.{Wiring, wiring_of, proper}
 use Rattle.n2_bus.specs.Transfer.{served}
 use Rattle.n2_bus.specs.declared.request.Reply.{Reply}
-use Rattle.n2_bus.specs.declared.request.Request.{Request}
-use Rattle.n2_bus.specs.declared.request.Request.TheVariants.{Read, Write}
-use Rattle.n2_watch.specs.declared.past.Past.{Past}
+use Rattle.n2_bus.specs.declared.request.Request.TheVariants.{Read}
 use Rattle.n2_watch.specs.declared.access.Access.TheVariants.{Bypass}
 use Rattle.n2_watch.specs.Discipline.{direction, breach}
-use Rattle.n2_watch.specs.Book.{Book, past_after}
-use Rattle.n2_watch.specs.World.{World, shared, transferred}
-use Rattle.n2_front.specs.Front.{Front}
+use Rattle.n2_watch.specs.World.{shared, transferred}
 use Rattle.n2_front.specs.Tasks as tasks
-use Rattle.n2_front.specs.Retire.{acted, who, done, done_past}
-use Rattle.n2_flat.specs.State.{CoreState, CommonState, IsAt, IsWatched, common_after, acted_by, taken_region, owned_if, event_noted, with_event}
-use Rattle.n2_flat.proofs.Noted.{core_with, has_slots}
+use Rattle.n2_front.specs.Retire.{acted, who, done_past}
+use Rattle.n2_flat.specs.State.{CoreState, IsAt, taken_region, owned_if, event_noted, with_event}
+use Rattle.n2_flat.proofs.Noted.{core_with}
 use Rattle.n2_flat.proofs.Alone.{past_reaches}
 use Rattle.std.specs.Prelude.{option_map}
-use Rattle.n2_exec.specs.Outcomes.{loaded_value}
 use Rattle.n2_board.specs.declared.guards.Guard.TheVariants.{Passed}
 use Rattle.n2_flat.proofs.Shared.{shared_done, read_reply}
 use Rattle.n2_flat.proofs.Guarded.{received_stands, received_past, received_world, watched_after}

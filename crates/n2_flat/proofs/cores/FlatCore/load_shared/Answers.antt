@@ -1,34 +1,12 @@
-use Rattle.std.proofs.Common.{◌≡◌, ℕ, Bool, true, false, Some, None, Ok, List, Option, IsTrue, get_or, refl, sym, ap, subst, ◌∙◌}
-use Rattle.n2_word.specs.Lines.{without_bypass}
+use Rattle.std.proofs.Common.{◌≡◌, false, None, IsTrue, sym, ap, subst, ◌∙◌}
 use Rattle.n2_word.specs.declared.Width.{Width}
 use Rattle.n2_word.specs.declared.Width.TheVariants.{Word}
 use Rattle.n2_word.specs.Words.{is_aligned}
-use Rattle.n2_exec.specs.declared.registers.Regs.{Regs}
-use Rattle.n2_exec.specs.Registers.{latched, loaded_regs, passed_regs}
-use Rattle.n2_board.specs.declared.access.Route.TheVariants.{Bypassing}
-use Rattle.n2_board.specs.declared.guards.Guard.{Guard}
-use Rattle.n2_board.specs.declared.guards.Holder.TheVariants.{ByCore}
-use Rattle.n2_board.specs.declared.places.Place.{Place}
-use Rattle.n2_board.specs.declared.places.Place.TheVariants.{Device}
-use Rattle.n2_board.specs.AddressMap.{AddressMap, place}
-use Rattle.n2_board.specs.Access.{data_target}
-use Rattle.n2_bus.specs.Wiring.{Wiring, wiring_of, proper}
-use Rattle.n2_bus.specs.Transfer.{served}
-use Rattle.n2_bus.specs.declared.request.Reply.{Reply}
-use Rattle.n2_bus.specs.declared.request.Request.{Request}
-use Rattle.n2_bus.specs.declared.request.Request.TheVariants.{Read, Write}
-use Rattle.n2_watch.specs.declared.past.Past.{Past}
 use Rattle.n2_watch.specs.declared.access.Access.TheVariants.{Bypass}
-use Rattle.n2_watch.specs.Discipline.{direction, breach}
-use Rattle.n2_watch.specs.Book.{Book, past_after}
-use Rattle.n2_watch.specs.World.{World, shared, transferred}
-use Rattle.n2_front.specs.Front.{Front}
+use Rattle.n2_watch.specs.Discipline.{breach}
 use Rattle.n2_front.specs.Tasks as tasks
-use Rattle.n2_front.specs.Retire.{acted, who, done, done_past}
-use Rattle.n2_flat.specs.State.{CoreState, CommonState, IsAt, IsWatched, common_after, acted_by}
-use Rattle.n2_flat.proofs.Noted.{core_with, has_slots}
-use Rattle.n2_flat.proofs.Alone.{past_reaches}
-use Rattle.n2_parts.specs.declared.board.PartKind.{PartKind}
+use Rattle.n2_front.specs.Retire.{who, done}
+use Rattle.n2_flat.specs.State.{acted_by}
 use Rattle.n2_flat.proofs.Shared.{device_word}
 use Rattle.n2_flat.proofs.Tasked.{on_ok}
 use Rattle.n2_flat.proofs.cores.FlatCore.load_shared.Goals as goal

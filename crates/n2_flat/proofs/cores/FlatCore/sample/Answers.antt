@@ -1,7 +1,6 @@
-use Rattle.std.proofs.Common.{◌≡◌, ap, subst, ◌∙◌}
-use Rattle.n2_bus.specs.Wiring.{Wiring}
+use Rattle.std.proofs.Common.{◌≡◌, subst, ◌∙◌}
 use Rattle.n2_runs.specs.FlatRun.{sampled_by}
-use Rattle.n2_flat.specs.State.{CoreState, CommonState}
+use Rattle.n2_flat.specs.State.{CoreState}
 use Rattle.n2_front.specs.Retire.{acted}
 use Rattle.n2_flat.proofs.Whole.{sampled_done, sample_left}
 use Rattle.n2_flat.proofs.cores.FlatCore.sample.Goals as goal

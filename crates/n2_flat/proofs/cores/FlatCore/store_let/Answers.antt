@@ -1,4 +1,4 @@
-use Rattle.std.proofs.Common.{◌≡◌, ℕ, refl, sym, subst, true, false}
+use Rattle.std.proofs.Common.{sym, subst, true}
 use Rattle.n2_flat.specs.State.{CoreState, CommonState, IsWatched}
 use Rattle.n2_flat.proofs.Noted.{core_with, has_slots}
 use Rattle.n2_flat.proofs.Tasked.{inside_memory}

@@ -1,6 +1,4 @@
-use Rattle.std.proofs.Common.{◌≡◌}
 use Rattle.n2_front.specs.Tasks as tasks
-use Rattle.n2_front.specs.Retire.{done, performed}
 use Rattle.n2_flat.specs.State.{acted_by}
 use Rattle.n2_flat.proofs.Judged.{is_unbroken}
 use Rattle.n2_flat.proofs.Tasked.{on_ok, halted, let_pass}

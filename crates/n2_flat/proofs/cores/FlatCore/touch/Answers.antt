@@ -1,4 +1,4 @@
-use Rattle.std.proofs.Common.{◌≡◌, ℕ, None, refl, subst}
+use Rattle.std.proofs.Common.{◌≡◌, None, refl, subst}
 use Rattle.n2_word.specs.Lines.{line}
 use Rattle.n2_watch.specs.declared.past.Past.TheVariants.{Touch}
 use Rattle.n2_watch.specs.declared.access.Access.TheVariants.{Cached}

@@ -1,5 +1,4 @@
-use Rattle.std.proofs.Common.{◌≡◌, List, ◌∷◌, reverse, sym, ◌∙◌, arith}
-use Rattle.n2_watch.specs.declared.past.Past.{Past as PastEvent}
+use Rattle.std.proofs.Common.{◌∙◌, arith}
 use Rattle.n2_flat.proofs.Uarts.{newest_put}
 use Rattle.n2_flat.proofs.events.Events.put_last.Goals as goal
 

@@ -1,10 +1,10 @@
-use Rattle.std.proofs.Common.{◌≡◌, ℕ, ◌≤◌, List, length, IsTrue, ap, sym, subst, arith, ◌∙◌}
+use Rattle.std.proofs.Common.{ℕ, ◌≤◌, length, IsTrue, ap, sym, subst, arith, ◌∙◌}
 use Rattle.n2_bus.specs.Wiring.{wiring_of, proper}
 use Rattle.n2_bus.specs.Transfer.{request_for}
 use Rattle.n2_bus.specs.declared.request.Request.{Request}
 use Rattle.n2_parts.specs.declared.stops.Act.TheVariants.{Device}
 use Rattle.n2_runs.specs.FlatRun.{act}
-use Rattle.n2_flat.specs.State.{State, CommonState, IsWhole, machine_of, common_after}
+use Rattle.n2_flat.specs.State.{State, IsWhole, machine_of, common_after}
 use Rattle.n2_flat.proofs.Whole.{event_act, event_whole, few_cores}
 use Rattle.n2_flat.proofs.machine.Flat.happen.Goals as goal
 

@@ -1,9 +1,6 @@
-use Rattle.std.proofs.Common.{◌≡◌, ℕ, List, Some, slice_get, refl, sym, ap, subst, ◌∙◌}
+use Rattle.std.proofs.Common.{sym, subst}
 use Rattle.n2_parts.specs.declared.board.Board.{Board}
-use Rattle.n2_bus.specs.Wiring.{wiring_of}
-use Rattle.n2_watch.specs.World.{start_world}
-use Rattle.n2_runs.specs.FlatRun.{flat_start}
-use Rattle.n2_flat.specs.State.{State, CoreState, CommonState, IsWhole, machine_of}
+use Rattle.n2_flat.specs.State.{IsWhole}
 use Rattle.n2_flat.proofs.Started.{started_whole, started_machine}
 use Rattle.n2_flat.proofs.machine.Flat.open.Goals as goal
 

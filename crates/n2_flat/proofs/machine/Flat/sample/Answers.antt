@@ -1,12 +1,9 @@
-use Rattle.std.proofs.Common.{◌≡◌, ℕ, ◌%◌, List, length, Option, Some, None, Result, OnOk, slice_get, slice_set, refl, ap, sym, subst, arith, ◌∙◌}
+use Rattle.std.proofs.Common.{◌≡◌, Some, None, slice_get, slice_set, ap, sym, subst, ◌∙◌}
 use Rattle.std.specs.Option.{is_some}
-use Rattle.n2_parts.specs.declared.stops.Stop.{Stop}
-use Rattle.n2_parts.specs.declared.stops.Act.TheVariants.{Retire, Sample}
-use Rattle.n2_front.specs.Retire.{retired}
-use Rattle.n2_runs.specs.FlatRun.{act, sampled_by}
-use Rattle.n2_flat.specs.State.{State, CoreState, CommonState, IsWhole, IsAt, machine_of, acted_by}
-use Rattle.n2_flat.proofs.Tasked.{on_ok}
-use Rattle.n2_flat.proofs.Whole.{is_at, retired_end, retired_act, stopped_end, sampled_whole, sampled_act, unsampled_end, there, within, never}
+use Rattle.n2_parts.specs.declared.stops.Act.TheVariants.{Sample}
+use Rattle.n2_runs.specs.FlatRun.{act}
+use Rattle.n2_flat.specs.State.{State, CoreState, CommonState, IsWhole, machine_of}
+use Rattle.n2_flat.proofs.Whole.{is_at, sampled_whole, sampled_act, unsampled_end, there, within, never}
 use Rattle.n2_flat.proofs.machine.Flat.sample.Goals as goal
 
 pub sample-requires : goal.sample-requires

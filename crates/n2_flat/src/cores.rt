@@ -16,13 +16,12 @@ ghost use Rattle.n2_front.specs.Tasks as tasks;
 ghost use Rattle.n2_front.specs.Retire.{who};
 ghost use Rattle.n2_flat.specs.State.{IsWatched, HasSlots, stop_of};
 
-use crate::common::Common;
 use crate::events::Events;
-use n2_board::{Board, Direction, Layout, Refusal, Route, Stop, Violation};
-use n2_exec::{Regs, extended};
+use n2_board::{Direction, Layout, Refusal, Route, Stop, Violation};
+use n2_exec::Regs;
 use n2_insn::DataOp;
 use n2_watch::{Access, Broken, Done, Past, Watch};
-use n2_word::{NoMemory, Width, line_of};
+use n2_word::{NoMemory, Width};
 use std::marker::Model;
 
 /// A core: registers, why it stopped, past events and watch.

@@ -1,4 +1,5 @@
 pub mod Refusals
+pub mod Sources
 pub mod Calls
 pub mod Files
 pub mod Boards

@@ -6,10 +6,11 @@ use Rattle.n2_board.specs.declared.placement.OpenFault.{OpenFault}
 use Rattle.n2_board.specs.declared.placement.OpenFault.TheVariants.{Outside, EntryOutside, Overlap, NoMemory}
 use Rattle.n2_journal.specs.declared.journal.JournalFault.{JournalFault}
 use Rattle.n2_journal.specs.declared.journal.JournalFault.TheVariants as journals
+use Rattle.n2_asm.specs.FaultTexts.{fault_text as source_fault}
 use Rattle.n2_inputs.specs.declared.refusal.Role.{Role}
 use Rattle.n2_inputs.specs.declared.refusal.Role.TheVariants as roles
 use Rattle.n2_inputs.specs.declared.refusal.Refusal.{Refusal}
-use Rattle.n2_inputs.specs.declared.refusal.Refusal.TheVariants.{Usage, UnbuiltCommand, Absent, TooLong, BoardText, Image, Misfit, OrderRow, JournalText, JournalWrong}
+use Rattle.n2_inputs.specs.declared.refusal.Refusal.TheVariants.{Usage, UnbuiltCommand, Absent, TooLong, BoardText, Image, Misfit, OrderRow, JournalText, JournalWrong, SourceRow}
 
 -- a file has at most so many bytes
 abbrev pub limit_of : Role → ℕ
@@ -46,6 +47,7 @@ status_of (Misfit fault) = 5
 status_of (OrderRow row) = 11
 status_of (JournalText fault) = 9
 status_of (JournalWrong row) = 9
+status_of (SourceRow row kind) = 10
 
 unfoldable pub usage : List ℕ
 usage = codes "usage: n2_tool plain FILE STEPS | step BOARD ORDER | replay BOARD JOURNAL | flat BOARD JOURNAL | asm FILE | asmhal FILE | dis FILE | bench N"
@@ -89,6 +91,7 @@ text_of (Misfit fault) = misfit_text fault
 text_of (OrderRow row) = row_text roles.Order (codes " row ") row
 text_of (JournalText fault) = journal_text fault
 text_of (JournalWrong row) = row_text roles.Journal (codes " wrong ") row
+text_of (SourceRow row kind) = file_text roles.Source (source_fault row kind)
 
 -- a row ends with a line feed
 abbrev pub row_of : Refusal → List ℕ

@@ -1,5 +1,5 @@
-//! What commands ask for before a machine runs: boards, images, orders and journals, fetched from a
-//! folder and read, or the first thing that is refused, with its status and its row.
+//! What commands ask for before a machine runs: boards, images, sources, orders and journals, fetched from
+//! a folder and read, or the first thing that is refused, with its status and its row.
 #![tactic(auto)]
 
 mod boards;
@@ -9,6 +9,7 @@ mod journals;
 mod orders;
 mod refusal;
 mod rows;
+mod sources;
 #[cfg(test)]
 mod tests;
 
@@ -19,3 +20,4 @@ pub use journals::read_journal;
 pub use orders::read_order;
 pub use refusal::{Failure, NoAnswer, Refusal, Role};
 pub use rows::put_row;
+pub use sources::{read_listing, read_source};

@@ -3,6 +3,7 @@
 ghost use Rattle.std.specs.Prelude.{◌≡◌};
 ghost use Rattle.n2_inputs.specs.Refusals as spec;
 
+use n2_asm::AsmKind;
 use n2_board::OpenFault;
 use n2_boardtext::TextFault;
 use n2_elf::ElfFault;
@@ -71,6 +72,9 @@ pub enum Refusal {
     JournalText(JournalFault),
     /// The journal is not that of a finished run: its first row, counted from 1, that differs.
     JournalWrong(u64),
+    /// This row of the source, counted from 1, is faulty; row 0 where the source has no executable
+    /// segment.
+    SourceRow(u64, AsmKind),
 }
 
 impl Refusal {
@@ -84,6 +88,7 @@ impl Refusal {
             Refusal::BoardText(_) => 4,
             Refusal::Image(_, _) | Refusal::Misfit(_) => 5,
             Refusal::JournalText(_) | Refusal::JournalWrong(_) => 9,
+            Refusal::SourceRow(_, _) => 10,
             Refusal::OrderRow(_) => 11,
             Refusal::UnbuiltCommand => 12,
         }

@@ -2,9 +2,11 @@
 
 ghost use Rattle.std.specs.Prelude.{◌≡◌, ◌++◌, OnOk};
 ghost use Rattle.n2_elf.specs.Names.{fault_text};
+ghost use Rattle.n2_asm.specs.FaultTexts.{fault_text as source_fault};
 ghost use Rattle.n2_inputs.specs.Refusals as spec;
 
 use crate::refusal::{Refusal, Role};
+use n2_asm::AsmKind;
 use n2_board::OpenFault;
 use n2_elf::{ElfFault, put_fault};
 use n2_journal::JournalFault;
@@ -109,6 +111,15 @@ fn put_journal_fault(out: &mut Vec<u8>, fault: JournalFault) -> Result<(), NoMem
     }
 }
 
+/// Appends the faulty row of a source, as `source row 2 range`.
+fn put_source_fault(out: &mut Vec<u8>, row: u64, kind: AsmKind) -> Result<(), NoMemory>
+    ensures { OnOk result (out.new.items ≡ out.old.items ++ spec.file_text Role.Source (source_fault row kind)) }
+{
+    put_text(out, b"source")?;
+    put_text(out, b" ")?;
+    n2_asm::put_fault(out, row, kind)
+}
+
 #[tactic(auto, unfolding(crate::specs::Refusals::text_of))]
 fn put_refusal(out: &mut Vec<u8>, refusal: &Refusal) -> Result<(), NoMemory>
     ensures { OnOk result (out.new.items ≡ out.old.items ++ spec.text_of refusal.now) }
@@ -124,6 +135,7 @@ fn put_refusal(out: &mut Vec<u8>, refusal: &Refusal) -> Result<(), NoMemory>
         Refusal::OrderRow(row) => put_file_row(out, Role::Order, b" row ", *row),
         Refusal::JournalText(fault) => put_journal_fault(out, *fault),
         Refusal::JournalWrong(row) => put_file_row(out, Role::Journal, b" wrong ", *row),
+        Refusal::SourceRow(row, kind) => put_source_fault(out, *row, *kind),
     }
 }
 

@@ -1,0 +1,3 @@
+pub mod Sized
+pub mod WorkBoard
+pub mod Words

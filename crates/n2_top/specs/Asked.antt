@@ -6,3 +6,7 @@ use Rattle.n2_elf.specs.declared.image.Image.{Image}
 pub data Asked : Type 0 where
   -- a run of an image on the plain board for so many acts
   PlainRun : (image : Image) (steps : ℕ) → Asked
+  -- the ELF file of an image
+  File : (image : Image) → Asked
+  -- the words of an image as text
+  Listing : (image : Image) → Asked

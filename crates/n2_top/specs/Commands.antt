@@ -13,12 +13,18 @@ pub data Command : Type 0 where
   Unbuilt : Command
   -- a file on the plain board for so many acts
   Plain : (file : List ℕ) (steps : ℕ) → Command
+  -- the ELF file of a source, with the routines of the HAL behind it or without
+  Assemble : (file : List ℕ) (hal : Bool) → Command
+  -- the words of an image as text
+  Disassemble : (file : List ℕ) → Command
 
 -- what a command that borrows its words stands for
 abbrev pub command_by : Borrowed → Command
 command_by borrowed.Faulty = Faulty
 command_by borrowed.Unbuilt = Unbuilt
 command_by (borrowed.Plain file steps) = Plain file.now steps
+command_by (borrowed.Assemble file hal) = Assemble file.now hal
+command_by (borrowed.Disassemble file) = Disassemble file.now
 
 -- a number of acts, from 1 to 1,000,000
 abbrev pub steps_of : List ℕ → Option ℕ
@@ -35,15 +41,18 @@ three_words name first second =
     else (if bytes_eq name (codes "step") || bytes_eq name (codes "replay") || bytes_eq name (codes "flat") then Unbuilt
     else Faulty)
 
--- asm FILE, asmhal FILE, dis FILE and bench N are not built yet
-unfoldable pub two_words : List ℕ → Command
-two_words name =
-    if bytes_eq name (codes "asm") || bytes_eq name (codes "asmhal") || bytes_eq name (codes "dis") || bytes_eq name (codes "bench") then Unbuilt
-    else Faulty
+-- asm FILE, asmhal FILE and dis FILE; bench N is not built yet
+unfoldable pub two_words : List ℕ → List ℕ → Command
+two_words name file =
+    if bytes_eq name (codes "asm") then Assemble file false
+    else (if bytes_eq name (codes "asmhal") then Assemble file true
+    else (if bytes_eq name (codes "dis") then Disassemble file
+    else (if bytes_eq name (codes "bench") then Unbuilt
+    else Faulty)))
 
 abbrev pub command_of : List (List ℕ) → Command
 command_of (name ∷ first ∷ second ∷ []) = three_words name first second
-command_of (name ∷ first ∷ []) = two_words name
+command_of (name ∷ first ∷ []) = two_words name first
 command_of words = Faulty
 
 -- a command that reads files
@@ -51,9 +60,13 @@ abbrev pub reads_files : Command → Bool
 reads_files Faulty = false
 reads_files Unbuilt = false
 reads_files (Plain file steps) = true
+reads_files (Assemble file hal) = true
+reads_files (Disassemble file) = true
 
 -- a command whose run is written to the journal
 abbrev pub writes_journal : Command → Bool
 writes_journal Faulty = false
 writes_journal Unbuilt = false
 writes_journal (Plain file steps) = false
+writes_journal (Assemble file hal) = false
+writes_journal (Disassemble file) = false

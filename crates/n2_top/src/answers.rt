@@ -7,6 +7,7 @@ ghost use Rattle.n2_top.specs.Answers.{ForAnswer, OverFiles, reply_to, settled, 
 ghost use Rattle.n2_inputs.specs.Calls.{Gives, LeavesFolder};
 
 use crate::command::{Command, command_in};
+use crate::images::{answer_listing, answer_source};
 use crate::plain::answer_plain;
 use n2_inputs::{Failure, NoAnswer, Refusal, put_row};
 use n2_outside::Folder;
@@ -38,6 +39,8 @@ fn answer_command<F: Folder>(
         Command::Faulty => Err(Failure::Refused(Refusal::Usage)),
         Command::Unbuilt => Err(Failure::Refused(Refusal::UnbuiltCommand)),
         Command::Plain { file, steps } => answer_plain(alloc, file, steps, folder),
+        Command::Assemble { file, hal } => answer_source(alloc, file, hal, folder),
+        Command::Disassemble { file } => answer_listing(alloc, file, folder),
     }
 }
 

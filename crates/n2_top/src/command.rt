@@ -14,6 +14,11 @@ pub enum Command<'a> {
     Unbuilt,
     /// `plain FILE STEPS`: a file on the plain board for so many acts.
     Plain { file: &'a str, steps: u32 },
+    /// `asm FILE` and `asmhal FILE`: the ELF file of a source, without the routines of the HAL or with
+    /// them.
+    Assemble { file: &'a str, hal: bool },
+    /// `dis FILE`: the words of an image as text.
+    Disassemble { file: &'a str },
 }
 
 /// `plain` makes at most so many acts.
@@ -46,11 +51,14 @@ fn in_three<'a>(name: &str, first: &'a str, second: &str) -> Command<'a>
 
 /// A command of two words.
 #[tactic(auto, unfolding(crate::specs::Commands::two_words))]
-fn in_two<'a>(name: &str) -> Command<'a>
-    ensures { spec.command_by result ≡ spec.two_words name.now }
+fn in_two<'a>(name: &str, file: &'a str) -> Command<'a>
+    ensures { spec.command_by result ≡ spec.two_words name.now file.now }
 {
     match name {
-        "asm" | "asmhal" | "dis" | "bench" => Command::Unbuilt,
+        "asm" => Command::Assemble { file, hal: false },
+        "asmhal" => Command::Assemble { file, hal: true },
+        "dis" => Command::Disassemble { file },
+        "bench" => Command::Unbuilt,
         _ => Command::Faulty,
     }
 }
@@ -61,7 +69,7 @@ pub fn command_in(words: &[String]) -> Command<'_>
 {
     match words {
         [name, first, second] => in_three(name.as_str(), first.as_str(), second.as_str()),
-        [name, _first] => in_two(name.as_str()),
+        [name, first] => in_two(name.as_str(), first.as_str()),
         _ => Command::Faulty,
     }
 }

@@ -37,6 +37,18 @@ uart u0 0
 verdict certified
 ";
 
+const P1: &str = ".text 0\naddi r2, r0, 5\nbreak\n";
+
+const BAD: &str = ".text 0\naddi r2, r0, 40000\n";
+
+const HI_LISTING: &str = "00000000 02000074 orhi r8, r0, 1
+00000004 00801a04 addi r2, r0, 104
+00000008 40800035 stwio r2, 0(r8)
+0000000c 00801a44 addi r2, r0, 105
+00000010 40800035 stwio r2, 0(r8)
+00000014 003da03a break 0
+";
+
 // A number that a proof does not see.
 fn unseen(n: usize) -> usize {
     n
@@ -54,6 +66,8 @@ fn folder(alloc: Global, failing: &[u64]) -> Result<MemFolder, Fail> {
     let mut files = Vec::new(alloc);
     files.push(("p2.bin".to_string(alloc)?, image(alloc, &HI)?))?;
     files.push(("empty.bin".to_string(alloc)?, Vec::new(alloc)))?;
+    files.push(("p1.s".to_string(alloc)?, P1.as_bytes().to_vec(alloc)?))?;
+    files.push(("bad.s".to_string(alloc)?, BAD.as_bytes().to_vec(alloc)?))?;
     Ok(MemFolder::new(files, failing.to_vec(alloc)?))
 }
 
@@ -83,6 +97,9 @@ fn answers_command_lines(rt: HostRuntime) -> Result<(), Fail> {
         ("step p2.toml rr:1", 12, "unbuilt command\n"),
         ("bench 1", 12, "unbuilt command\n"),
         ("plain nothing.bin 1", 5, "image 0 absent\n"),
+        ("asm nothing.s", 10, "source absent\n"),
+        ("asmhal bad.s", 10, "source row 2 range\n"),
+        ("dis p2.bin", 0, HI_LISTING),
         ("plain p2.bin 100", 0, HI_TEXT),
         ("plain empty.bin 3", 2, EMPTY_TEXT),
     ];
@@ -102,5 +119,17 @@ fn names_faults_of_the_outside(rt: HostRuntime) -> Result<(), Fail> {
     let (status, written) = answered(rt.alloc(), "plain p2.bin 100", &[], &[2])?;
     assert_eq!(rt; status, 7);
     assert_eq!(rt; written.as_slice(), b"nios2 flat".as_slice());
+    Ok(())
+}
+
+#[test]
+fn assembles_a_source(rt: HostRuntime) -> Result<(), Fail> {
+    let (status, file) = answered(rt.alloc(), "asm p1.s", &[], &[])?;
+    assert_eq!(rt; status, 0);
+    assert_eq!(rt; file.len(), 92);
+    assert!(rt;
+        file.as_slice()
+            .ends_with(&[0x44, 1, 0x80, 0, 0x3a, 0xa0, 0x3d, 0])
+    );
     Ok(())
 }

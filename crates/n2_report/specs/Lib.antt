@@ -3,3 +3,5 @@ pub mod Flat
 pub mod Transfers
 pub mod Report
 pub mod OfFlat
+pub mod OfRun
+pub mod Ran

@@ -5,6 +5,7 @@
 mod ends;
 mod flat;
 mod of_flat;
+mod of_run;
 mod report;
 mod stops;
 mod transfers;
@@ -12,6 +13,7 @@ mod transfers;
 pub use ends::{CoreEnd, MemoryLine, UartEnd};
 pub use flat::flat_text;
 pub use of_flat::flat_report;
+pub use of_run::{run_report, run_status};
 pub use report::report_text;
 pub use stops::status;
 pub use transfers::Transfers;

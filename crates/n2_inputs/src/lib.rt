@@ -10,8 +10,6 @@ mod orders;
 mod refusal;
 mod rows;
 mod sources;
-#[cfg(test)]
-mod tests;
 
 pub use boards::{image_in, read_board, read_images, read_machine};
 pub use files::fetch_file;

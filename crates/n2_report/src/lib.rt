@@ -17,6 +17,3 @@ pub use of_run::{run_report, run_status};
 pub use report::report_text;
 pub use stops::status;
 pub use transfers::Transfers;
-
-#[cfg(test)]
-mod tests;

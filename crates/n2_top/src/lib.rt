@@ -91,6 +91,3 @@ pub fn tool_top<F: Folder, S: Sink, L: Sink>(
         Err(NoAnswer::NoMemory) => 8,
     }
 }
-
-#[cfg(test)]
-mod tests;

@@ -1,0 +1,3 @@
+.text 0
+addi r2, r0, 5
+break

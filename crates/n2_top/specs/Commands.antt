@@ -2,6 +2,7 @@
 use Rattle.std.specs.Prelude.{ℕ, List, [], ◌∷◌, Bool, true, false, Option, Some, None, ◌||◌, if◌then◌else◌, codes}
 use Rattle.std.specs.Str.{bytes_eq}
 use Rattle.n2_text.specs.Fields.{numeral, at_most, from_one}
+use Rattle.n2_order.specs.Orders.{Asked, asked, order_of, HasTurns}
 use Rattle.n2_top.specs.declared.command.Command.{Command as Borrowed}
 use Rattle.n2_top.specs.declared.command.Command.TheVariants as borrowed
 
@@ -13,6 +14,8 @@ pub data Command : Type 0 where
   Unbuilt : Command
   -- a file on the plain board for so many acts
   Plain : (file : List ℕ) (steps : ℕ) → Command
+  -- a run of the board in a file by an order
+  Step : (board : List ℕ) (order : Asked) → Command
   -- the ELF file of a source, with the routines of the HAL behind it or without
   Assemble : (file : List ℕ) (hal : Bool) → Command
   -- the words of an image as text
@@ -23,8 +26,14 @@ abbrev pub command_by : Borrowed → Command
 command_by borrowed.Faulty = Faulty
 command_by borrowed.Unbuilt = Unbuilt
 command_by (borrowed.Plain file steps) = Plain file.now steps
+command_by (borrowed.Step board order) = Step board.now (asked order)
 command_by (borrowed.Assemble file hal) = Assemble file.now hal
 command_by (borrowed.Disassemble file) = Disassemble file.now
+
+-- the rounds of its order have at least one turn
+abbrev pub HasTurnsIn : Borrowed → Type 0
+HasTurnsIn (borrowed.Step board order) = HasTurns (asked order)
+HasTurnsIn _ = Unit {0}
 
 -- a number of acts, from 1 to 1,000,000
 abbrev pub steps_of : List ℕ → Option ℕ
@@ -34,12 +43,17 @@ abbrev pub plain_command : List ℕ → Option ℕ → Command
 plain_command file None = Faulty
 plain_command file (Some steps) = Plain file steps
 
--- plain FILE STEPS; step BOARD ORDER, replay BOARD JOURNAL and flat BOARD JOURNAL are not built yet
+abbrev pub step_command : List ℕ → Option Asked → Command
+step_command board None = Faulty
+step_command board (Some order) = Step board order
+
+-- plain FILE STEPS; step BOARD ORDER; replay BOARD JOURNAL and flat BOARD JOURNAL are not built yet
 unfoldable pub three_words : List ℕ → List ℕ → List ℕ → Command
 three_words name first second =
     if bytes_eq name (codes "plain") then plain_command first (steps_of second)
-    else (if bytes_eq name (codes "step") || bytes_eq name (codes "replay") || bytes_eq name (codes "flat") then Unbuilt
-    else Faulty)
+    else (if bytes_eq name (codes "step") then step_command first (order_of second)
+    else (if bytes_eq name (codes "replay") || bytes_eq name (codes "flat") then Unbuilt
+    else Faulty))
 
 -- asm FILE, asmhal FILE and dis FILE; bench N is not built yet
 unfoldable pub two_words : List ℕ → List ℕ → Command
@@ -60,6 +74,7 @@ abbrev pub reads_files : Command → Bool
 reads_files Faulty = false
 reads_files Unbuilt = false
 reads_files (Plain file steps) = true
+reads_files (Step board order) = true
 reads_files (Assemble file hal) = true
 reads_files (Disassemble file) = true
 
@@ -68,5 +83,6 @@ abbrev pub writes_journal : Command → Bool
 writes_journal Faulty = false
 writes_journal Unbuilt = false
 writes_journal (Plain file steps) = false
+writes_journal (Step board order) = true
 writes_journal (Assemble file hal) = false
 writes_journal (Disassemble file) = false

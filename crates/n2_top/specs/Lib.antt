@@ -1,4 +1,6 @@
 pub mod Commands
 pub mod Asked
 pub mod Plain
+pub mod Runs
+pub mod Step
 pub mod Answers

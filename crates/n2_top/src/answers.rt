@@ -2,13 +2,14 @@
 
 ghost use Rattle.std.specs.Prelude.{◌≡◌, ◌≤◌, ◌<◌, [], map, string_bytes, IfOk, IsErrOf, Err, IsTrue, false};
 ghost use Rattle.n2_outside.specs.Faults.{Rose};
-ghost use Rattle.n2_top.specs.Commands.{command_by, command_of, reads_files, writes_journal};
+ghost use Rattle.n2_top.specs.Commands.{command_by, command_of, HasTurnsIn, reads_files, writes_journal};
 ghost use Rattle.n2_top.specs.Answers.{ForAnswer, OverFiles, reply_to, settled, is_final};
 ghost use Rattle.n2_inputs.specs.Calls.{Gives, LeavesFolder};
 
 use crate::command::{Command, command_in};
 use crate::images::{answer_listing, answer_source};
 use crate::plain::answer_plain;
+use crate::step::answer_step;
 use n2_inputs::{Failure, NoAnswer, Refusal, put_row};
 use n2_outside::Folder;
 use n2_text::Items;
@@ -29,6 +30,7 @@ fn answer_command<F: Folder>(
     command: &Command<'_>,
     folder: &mut F,
 ) -> Result<Answer, Failure>
+    requires turns { HasTurnsIn command.now }
     ensures answer { OverFiles (F.files folder.old) (command_by command.now) (λ files. Gives (λ a. a) (reply_to (command_by command.now) files) result) }
     ensures unread { reads_files (command_by command.now) ≡ false → folder.new ≡ folder.old }
     ensures folder { LeavesFolder (F.files folder.old) (F.files folder.new) (F.faults folder.old) (F.faults folder.new) result }
@@ -39,6 +41,7 @@ fn answer_command<F: Folder>(
         Command::Faulty => Err(Failure::Refused(Refusal::Usage)),
         Command::Unbuilt => Err(Failure::Refused(Refusal::UnbuiltCommand)),
         Command::Plain { file, steps } => answer_plain(alloc, file, steps, folder),
+        Command::Step { board, order } => answer_step(alloc, board, &order, folder),
         Command::Assemble { file, hal } => answer_source(alloc, file, hal, folder),
         Command::Disassemble { file } => answer_listing(alloc, file, folder),
     }

@@ -3,6 +3,7 @@
 ghost use Rattle.std.specs.Prelude.{◌≡◌, map, string_bytes};
 ghost use Rattle.n2_top.specs.Commands as spec;
 
+use n2_order::Order;
 use n2_text::numeral_up_to;
 
 /// What the words of a command line ask for.
@@ -14,6 +15,8 @@ pub enum Command<'a> {
     Unbuilt,
     /// `plain FILE STEPS`: a file on the plain board for so many acts.
     Plain { file: &'a str, steps: u32 },
+    /// `step BOARD ORDER`: a run of a board by an order.
+    Step { board: &'a str, order: Order<'a> },
     /// `asm FILE` and `asmhal FILE`: the ELF file of a source, without the routines of the HAL or with
     /// them.
     Assemble { file: &'a str, hal: bool },
@@ -36,15 +39,23 @@ fn steps_in(word: &str) -> Option<u32>
 
 /// A command of three words.
 #[tactic(auto, unfolding(crate::specs::Commands::three_words))]
-fn in_three<'a>(name: &str, first: &'a str, second: &str) -> Command<'a>
-    ensures { spec.command_by result ≡ spec.three_words name.now first.now second.now }
+fn in_three<'a>(name: &str, first: &'a str, second: &'a str) -> Command<'a>
+    ensures command { spec.command_by result ≡ spec.three_words name.now first.now second.now }
+    ensures turns { spec.HasTurnsIn result }
 {
     match name {
         "plain" => match steps_in(second) {
             Some(steps) => Command::Plain { file: first, steps },
             None => Command::Faulty,
         },
-        "step" | "replay" | "flat" => Command::Unbuilt,
+        "step" => match Order::read(second) {
+            Some(order) => Command::Step {
+                board: first,
+                order,
+            },
+            None => Command::Faulty,
+        },
+        "replay" | "flat" => Command::Unbuilt,
         _ => Command::Faulty,
     }
 }
@@ -52,7 +63,8 @@ fn in_three<'a>(name: &str, first: &'a str, second: &str) -> Command<'a>
 /// A command of two words.
 #[tactic(auto, unfolding(crate::specs::Commands::two_words))]
 fn in_two<'a>(name: &str, file: &'a str) -> Command<'a>
-    ensures { spec.command_by result ≡ spec.two_words name.now file.now }
+    ensures command { spec.command_by result ≡ spec.two_words name.now file.now }
+    ensures turns { spec.HasTurnsIn result }
 {
     match name {
         "asm" => Command::Assemble { file, hal: false },
@@ -65,7 +77,8 @@ fn in_two<'a>(name: &str, file: &'a str) -> Command<'a>
 
 /// What some words ask for.
 pub fn command_in(words: &[String]) -> Command<'_>
-    ensures { spec.command_by result ≡ spec.command_of (map string_bytes words.now) }
+    ensures command { spec.command_by result ≡ spec.command_of (map string_bytes words.now) }
+    ensures turns { spec.HasTurnsIn result }
 {
     match words {
         [name, first, second] => in_three(name.as_str(), first.as_str(), second.as_str()),

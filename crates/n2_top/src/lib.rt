@@ -5,6 +5,8 @@ mod answers;
 mod command;
 mod images;
 mod plain;
+mod runs;
+mod step;
 
 ghost use Rattle.std.specs.Prelude.{◌≡◌, ◌≢◌, ◌<◌, ◌≤◌, ◌⊎◌, [], Ok, Err, map, string_bytes, IsTrue, false};
 ghost use Rattle.n2_outside.specs.Faults.{Rose};
@@ -42,10 +44,12 @@ fn put_answer<S: Sink, L: Sink>(answer: &Answer, out: &mut S, journal: &mut L) -
 /// * 0: done, and every core broke, where cores ran; 1: done, and an access of a core was refused or strayed; 2: done,
 ///   and neither.
 /// * 3: the words are none of the table.
+/// * 4: the board file is absent, longer than 256 KiB, or no valid board's text.
 /// * 5: an image is absent, longer than 16 MiB, no sound ELF file though it begins as one, or does
-///   not fit the board: a segment or its entry is outside of the memory.
+///   not fit the board: a segment or its entry is outside of the memory, or two images overlap.
 /// * 6: a file could not be fetched. 7: a put failed. 8: no memory was left.
 /// * 10: a source is absent, longer than 1 MiB, or has a faulty row.
+/// * 11: the order file is absent, longer than 4 MiB, or has a row that names no actor.
 /// * 12: what was asked for is not built yet.
 ///
 /// Over a folder that tells its files, or at a command that reads none, every status but 6, 7 and 8 is

@@ -1,8 +1,7 @@
 -- What a run's report shows is what the run's state has.
-use Rattle.std.proofs.Common.{◌≡◌, ℕ, zero, suc, ◌+◌, ◌-◌, ◌<◌, List, [], ◌∷◌, ◌++◌, length, map, slice_get, Option, Some, Result, Ok, Err, refl, sym, ap, ◌∙◌, subst, append_assoc, arith}
+use Rattle.std.proofs.Common.{◌≡◌, ℕ, zero, suc, ◌+◌, ◌-◌, ◌<◌, List, [], ◌∷◌, ◌++◌, length, map, slice_get, Option, Some, Result, Ok, Err, refl, sym, ap, ◌∙◌, append_assoc, arith}
 use Rattle.std.specs.Prelude.{IfOk}
 use Rattle.n2_parts.specs.declared.board.Board.{Board}
-use Rattle.n2_parts.specs.declared.board.CoreRow.{CoreRow}
 use Rattle.n2_parts.specs.declared.board.UartRow.{UartRow}
 use Rattle.n2_parts.specs.declared.stops.Stop.{Stop}
 use Rattle.n2_board.specs.AddressMap.{AddressMap}
@@ -10,8 +9,6 @@ use Rattle.n2_journal.specs.declared.entry.Entry.{Entry}
 use Rattle.n2_watch.proofs.KeptLists.{element_at}
 use Rattle.n2_front.specs.Core.{Core}
 use Rattle.n2_front.specs.Core as front
-use Rattle.n2_cpu.specs.declared.state.State.{State}
-use Rattle.n2_cpu.specs.Stands as cpu
 use Rattle.n2_runs.specs.Machine.{Machine}
 use Rattle.n2_smp.specs.declared.machine.Ran.{Ran}
 use Rattle.n2_smp.specs.Standing.{RanStandsFor}

@@ -11,7 +11,7 @@ use Rattle.n2_runs.specs.FlatRun.{Flat}
 use Rattle.n2_flat.specs.State.{State}
 use Rattle.n2_report.specs.declared.ends.CoreEnd.{CoreEnd}
 use Rattle.n2_report.specs.declared.ends.MemoryLine.{MemoryLine}
-use Rattle.n2_report.specs.Flat.{Uart, flat_text}
+use Rattle.n2_report.specs.Flat.{Uart, flat_part, flat_text}
 
 -- a flat machine of a valid board: it has the board's cores and memories
 pub record IsOf (b : Board) (s : State) : Type 0 where
@@ -39,6 +39,10 @@ dumped_lines memory at j (suc n) = dumped_line memory (at + 32 * j) ∷ dumped_l
 abbrev pub dumped : Contents → List DumpRow → List MemoryLine
 dumped memory [] = []
 dumped memory (row ∷ rows) = dumped_lines memory row.at 0 row.lines ++ dumped memory rows
+
+-- the flat part of a flat machine's report
+abbrev pub flat_flat_part : Board → Flat → List ℕ
+flat_flat_part b m = flat_part (map end_of m.cores) (uarts_from 0 b.uart m.world.book.sent)
 
 unfoldable pub flat_report : Board → Flat → List ℕ
 flat_report b m = flat_text (map end_of m.cores) (uarts_from 0 b.uart m.world.book.sent) (dumped m.world.memory b.dump)

@@ -1,5 +1,5 @@
 -- The report of a run of a board: its cores, its UARTs by the journal, and the lines of main memory that the board dumps.
-use Rattle.std.specs.Prelude.{◌≡◌, ℕ, ◌+◌, ◌%◌, ◌^◌, ◌==◌, ◌&&◌, Bool, List, [], ◌∷◌, map, if◌then◌else◌}
+use Rattle.std.specs.Prelude.{ℕ, ◌+◌, ◌%◌, ◌^◌, ◌==◌, ◌&&◌, Bool, List, [], ◌∷◌, map, if◌then◌else◌}
 use Rattle.std.specs.List.{flat_map}
 use Rattle.n2_parts.specs.declared.board.Board.{Board}
 use Rattle.n2_parts.specs.declared.board.UartRow.{UartRow}

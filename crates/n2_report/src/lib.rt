@@ -4,6 +4,7 @@
 
 mod ends;
 mod flat;
+pub mod laws;
 mod of_flat;
 mod of_run;
 mod report;

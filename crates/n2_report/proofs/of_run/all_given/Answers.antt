@@ -1,4 +1,4 @@
-use Rattle.std.proofs.Common.{◌≡◌, ◌+◌, ◌-◌, ◌++◌, ◌∷◌, [], ℕ, List, ap, ◌∙◌}
+use Rattle.std.proofs.Common.{◌+◌, ◌-◌, ◌++◌, ℕ, List, ap, ◌∙◌}
 use Rattle.n2_report.specs.Ran.{all_given}
 use Rattle.n2_report.proofs.RunEnds.{given_next}
 use Rattle.n2_report.proofs.of_run.all_given.Goals as goal

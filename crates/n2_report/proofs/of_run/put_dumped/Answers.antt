@@ -1,4 +1,4 @@
-use Rattle.std.proofs.Common.{◌≡◌, ℕ, ◌+◌, ◌-◌, ◌*◌, List, ◌∷◌, ◌++◌, [], refl, sym, ap, ◌∙◌, arith}
+use Rattle.std.proofs.Common.{◌≡◌, ℕ, ◌+◌, ◌-◌, ◌*◌, List, ◌∷◌, ◌++◌, [], ap, ◌∙◌}
 use Rattle.n2_memory.specs.Memories.{line_at}
 use Rattle.n2_report.specs.declared.ends.MemoryLine.{MemoryLine}
 use Rattle.n2_report.specs.OfFlat.{dumped_line, dumped_lines}

@@ -1,19 +1,15 @@
-use Rattle.std.proofs.Common.{◌≡◌, ℕ, ◌<◌, List, length, map, ap, sym, ◌∙◌, Vec, Global, arith}
+use Rattle.std.proofs.Common.{◌≡◌, ℕ, List, length, map, ap, sym, ◌∙◌, Vec, Global}
 use Rattle.n2_parts.specs.declared.board.UartRow.{UartRow}
 use Rattle.n2_journal.specs.declared.entry.Entry.{Entry}
 use Rattle.n2_journal.specs.Journals.{Content}
 use Rattle.n2_memory.specs.Memories.{Contents}
 use Rattle.n2_runs.specs.Machine.{Machine}
 use Rattle.n2_smp.specs.Standing.{RanStandsFor}
-use Rattle.n2_report.specs.declared.ends.CoreEnd.{CoreEnd}
-use Rattle.n2_report.specs.declared.ends.MemoryLine.{MemoryLine}
-use Rattle.n2_report.specs.declared.transfers.Transfers.{Transfers}
-use Rattle.n2_report.specs.Flat.{Uart, uart_of}
+use Rattle.n2_report.specs.Flat.{uart_of}
 use Rattle.n2_report.specs.Report.{report_text}
 use Rattle.n2_report.specs.Transfers.{transfers_of}
 use Rattle.n2_report.specs.OfFlat.{dumped}
-use Rattle.n2_report.specs.OfRun.{run_report, core_end, uarts_given}
-use Rattle.n2_report.specs.OfRun as run
+use Rattle.n2_report.specs.OfRun.{run_report, uarts_given}
 use Rattle.n2_report.specs.Ran.{all_given, named, end_of, turns_of}
 use Rattle.n2_report.proofs.RunEnds.{if_ok, given_count, named_given, same_ends, same_turns, same_report}
 use Rattle.n2_report.proofs.of_run.run_report.Goals as goal

@@ -1,4 +1,4 @@
-use Rattle.std.proofs.Common.{◌≡◌, ap, ◌∙◌}
+use Rattle.std.proofs.Common.{ap, ◌∙◌}
 use Rattle.n2_report.specs.Stops.{status_of}
 use Rattle.n2_report.proofs.RunEnds.{same_stops}
 use Rattle.n2_report.proofs.of_run.run_status.Goals as goal

@@ -7,12 +7,15 @@ ghost use Rattle.n2_outside.specs.Faults.{Rose};
 ghost use Rattle.n2_outside.specs.Bytes.{appended};
 ghost use Rattle.n2_top.specs.Answers.{ForAnswer, is_final};
 
-use n2_outside::{DirFolder, Folder, NullSink, Sink, StdSink};
+use n2_outside::{DirFolder, FileSink, Folder, Sink, StdSink};
 use n2_top::tool_top;
 use std::alloc::{AllocError, Global};
 use std::env;
 use std::process::ExitCode;
 use std::rt::Env;
+
+/// The file in the current folder that a run's journal goes to; it is made at the first put.
+const JOURNAL: &str = "journal.txt";
 
 /// The status where no memory was left for the words.
 const NO_MEMORY: u8 = 8;
@@ -60,6 +63,6 @@ fn main(rt: HostRuntime) -> ExitCode {
     };
     let mut folder = DirFolder::new(&rt);
     let mut out = StdSink::new(&rt);
-    let mut journal = NullSink::new();
+    let mut journal = FileSink::new(&rt, JOURNAL);
     run(rt.alloc(), &words, &mut folder, &mut out, &mut journal)
 }

@@ -180,6 +180,8 @@ impl Machine {
     fn tail_rows(&mut self, first: u64, tails: &[u64]) -> Option<u64>
         requires { first < 2 ^ 63 + 2 }
         ensures follows { (m : Caching) → StandsFor self.old m → IsBookKept self.old.board self.old.map m → FollowsRows self.new result (tail_rows self.old.board self.old.map first 0 tails.now m) }
+        ensures board { self.new.board ≡ self.old.board }
+        ensures map { self.new.map ≡ self.old.map }
     {
         let count = self.core_count();
         for (core, tail) in tails.iter().enumerate() {
@@ -201,7 +203,9 @@ impl Machine {
     }
 
     fn rows(&mut self, journal: &Journal) -> Result<(), Wrong>
-        ensures { (m : Caching) → StandsFor self.old m → IsBookKept self.old.board self.old.map m → IsReplayed self.new result (replayed self.old.board self.old.map m journal.now.content) }
+        ensures replayed { (m : Caching) → StandsFor self.old m → IsBookKept self.old.board self.old.map m → IsReplayed self.new result (replayed self.old.board self.old.map m journal.now.content) }
+        ensures board { self.new.board ≡ self.old.board }
+        ensures map { self.new.map ≡ self.old.map }
     {
         match self.entry_rows(journal.entries()) {
             Some(row) => return Err(Wrong { row }),
@@ -219,6 +223,8 @@ impl Machine {
     pub fn replay(&mut self, journal: &Journal) -> Result<(), Wrong>
         ensures replayed { (m : Caching) → StandsFor self.old m → IsBookKept self.old.board self.old.map m → IsReplayed self.new result (replayed self.old.board self.old.map m journal.now.content) }
         ensures records { (images : List ImageValue) → length images ≡ length self.old.board.core → StandsFor self.old (start self.old.board images) → (result ≡ Ok tt) ↔ Records self.old.board self.old.map (start self.old.board images) journal.now.content }
+        ensures board { self.new.board ≡ self.old.board }
+        ensures map { self.new.map ≡ self.old.map }
     {
         self.rows(journal)
     }

@@ -1,3 +1,4 @@
 pub mod Giving
 pub mod Acts
 pub mod Stepping
+pub mod Replaying

@@ -2,6 +2,7 @@
 use Rattle.std.specs.Prelude.{ℕ, List}
 use Rattle.n2_elf.specs.declared.image.Image.{Image}
 use Rattle.n2_order.specs.Orders.{Asked as Order}
+use Rattle.n2_journal.specs.Journals.{Content}
 use Rattle.n2_inputs.specs.declared.inputs.Inputs.{Inputs}
 
 -- what is asked
@@ -10,6 +11,8 @@ pub data Asked : Type 0 where
   PlainRun : (image : Image) (steps : ℕ) → Asked
   -- a run of a board by an order, with the actors that its file lists
   OrderRun : (inputs : Inputs) (order : Order) (list : List ℕ) → Asked
+  -- the run of a board that a journal tells
+  JournalRun : (inputs : Inputs) (journal : Content) → Asked
   -- the ELF file of an image
   File : (image : Image) → Asked
   -- the words of an image as text

@@ -1,5 +1,5 @@
 -- The commands of the tool, by their words.
-use Rattle.std.specs.Prelude.{ℕ, List, [], ◌∷◌, Bool, true, false, Option, Some, None, ◌||◌, if◌then◌else◌, codes}
+use Rattle.std.specs.Prelude.{ℕ, List, [], ◌∷◌, Bool, true, false, Option, Some, None, if◌then◌else◌, codes}
 use Rattle.std.specs.Str.{bytes_eq}
 use Rattle.n2_text.specs.Fields.{numeral, at_most, from_one}
 use Rattle.n2_order.specs.Orders.{Asked, asked, order_of, HasTurns}
@@ -16,6 +16,8 @@ pub data Command : Type 0 where
   Plain : (file : List ℕ) (steps : ℕ) → Command
   -- a run of the board in a file by an order
   Step : (board : List ℕ) (order : Asked) → Command
+  -- the run of the board in a file that the journal in another tells
+  Replay : (board journal : List ℕ) → Command
   -- the ELF file of a source, with the routines of the HAL behind it or without
   Assemble : (file : List ℕ) (hal : Bool) → Command
   -- the words of an image as text
@@ -27,6 +29,7 @@ command_by borrowed.Faulty = Faulty
 command_by borrowed.Unbuilt = Unbuilt
 command_by (borrowed.Plain file steps) = Plain file.now steps
 command_by (borrowed.Step board order) = Step board.now (asked order)
+command_by (borrowed.Replay board journal) = Replay board.now journal.now
 command_by (borrowed.Assemble file hal) = Assemble file.now hal
 command_by (borrowed.Disassemble file) = Disassemble file.now
 
@@ -47,13 +50,14 @@ abbrev pub step_command : List ℕ → Option Asked → Command
 step_command board None = Faulty
 step_command board (Some order) = Step board order
 
--- plain FILE STEPS; step BOARD ORDER; replay BOARD JOURNAL and flat BOARD JOURNAL are not built yet
+-- plain FILE STEPS; step BOARD ORDER; replay BOARD JOURNAL; flat BOARD JOURNAL is not built yet
 unfoldable pub three_words : List ℕ → List ℕ → List ℕ → Command
 three_words name first second =
     if bytes_eq name (codes "plain") then plain_command first (steps_of second)
     else (if bytes_eq name (codes "step") then step_command first (order_of second)
-    else (if bytes_eq name (codes "replay") || bytes_eq name (codes "flat") then Unbuilt
-    else Faulty))
+    else (if bytes_eq name (codes "replay") then Replay first second
+    else (if bytes_eq name (codes "flat") then Unbuilt
+    else Faulty)))
 
 -- asm FILE, asmhal FILE and dis FILE; bench N is not built yet
 unfoldable pub two_words : List ℕ → List ℕ → Command
@@ -75,6 +79,7 @@ reads_files Faulty = false
 reads_files Unbuilt = false
 reads_files (Plain file steps) = true
 reads_files (Step board order) = true
+reads_files (Replay board journal) = true
 reads_files (Assemble file hal) = true
 reads_files (Disassemble file) = true
 
@@ -84,5 +89,6 @@ writes_journal Faulty = false
 writes_journal Unbuilt = false
 writes_journal (Plain file steps) = false
 writes_journal (Step board order) = true
+writes_journal (Replay board journal) = false
 writes_journal (Assemble file hal) = false
 writes_journal (Disassemble file) = false

@@ -3,4 +3,5 @@ pub mod Asked
 pub mod Plain
 pub mod Runs
 pub mod Step
+pub mod Replay
 pub mod Answers

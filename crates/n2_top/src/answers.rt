@@ -9,6 +9,7 @@ ghost use Rattle.n2_inputs.specs.Calls.{Gives, LeavesFolder};
 use crate::command::{Command, command_in};
 use crate::images::{answer_listing, answer_source};
 use crate::plain::answer_plain;
+use crate::replay::answer_replay;
 use crate::step::answer_step;
 use n2_inputs::{Failure, NoAnswer, Refusal, put_row};
 use n2_outside::Folder;
@@ -42,6 +43,7 @@ fn answer_command<F: Folder>(
         Command::Unbuilt => Err(Failure::Refused(Refusal::UnbuiltCommand)),
         Command::Plain { file, steps } => answer_plain(alloc, file, steps, folder),
         Command::Step { board, order } => answer_step(alloc, board, &order, folder),
+        Command::Replay { board, journal } => answer_replay(alloc, board, journal, folder),
         Command::Assemble { file, hal } => answer_source(alloc, file, hal, folder),
         Command::Disassemble { file } => answer_listing(alloc, file, folder),
     }

@@ -17,6 +17,8 @@ pub enum Command<'a> {
     Plain { file: &'a str, steps: u32 },
     /// `step BOARD ORDER`: a run of a board by an order.
     Step { board: &'a str, order: Order<'a> },
+    /// `replay BOARD JOURNAL`: the run of a board that a journal tells.
+    Replay { board: &'a str, journal: &'a str },
     /// `asm FILE` and `asmhal FILE`: the ELF file of a source, without the routines of the HAL or with
     /// them.
     Assemble { file: &'a str, hal: bool },
@@ -55,7 +57,11 @@ fn in_three<'a>(name: &str, first: &'a str, second: &'a str) -> Command<'a>
             },
             None => Command::Faulty,
         },
-        "replay" | "flat" => Command::Unbuilt,
+        "replay" => Command::Replay {
+            board: first,
+            journal: second,
+        },
+        "flat" => Command::Unbuilt,
         _ => Command::Faulty,
     }
 }

@@ -5,6 +5,7 @@ mod answers;
 mod command;
 mod images;
 mod plain;
+mod replay;
 mod runs;
 mod step;
 
@@ -48,6 +49,8 @@ fn put_answer<S: Sink, L: Sink>(answer: &Answer, out: &mut S, journal: &mut L) -
 /// * 5: an image is absent, longer than 16 MiB, no sound ELF file though it begins as one, or does
 ///   not fit the board: a segment or its entry is outside of the memory, or two images overlap.
 /// * 6: a file could not be fetched. 7: a put failed. 8: no memory was left.
+/// * 9: the journal is absent, longer than 256 MiB, has a row outside of the grammar, is cut, or is not that of a
+///   finished run of the board, with the first row that differs.
 /// * 10: a source is absent, longer than 1 MiB, or has a faulty row.
 /// * 11: the order file is absent, longer than 4 MiB, or has a row that names no actor.
 /// * 12: what was asked for is not built yet.

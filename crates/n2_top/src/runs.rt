@@ -1,12 +1,12 @@
 //! What the run of a board answers.
 
-ghost use Rattle.std.specs.Prelude.{◌≡◌, ◌<◌, length, IfOk, None};
+ghost use Rattle.std.specs.Prelude.{◌≡◌, ◌<◌, [], length, IfOk, None};
 ghost use Rattle.n2_parts.specs.Valid.{IsValid};
 ghost use Rattle.n2_runs.specs.Machine.{Machine as Caching, start};
 ghost use Rattle.n2_runs.specs.Knows.{IsBookKept};
 ghost use Rattle.n2_smp.specs.Standing.{StandsFor, RanStandsFor};
 ghost use Rattle.n2_inputs.specs.Asked.{IsReady};
-ghost use Rattle.n2_top.specs.Runs.{run_answer};
+ghost use Rattle.n2_top.specs.Runs.{run_answer, report_answer};
 
 use crate::answers::Answer;
 use n2_inputs::Inputs;
@@ -43,6 +43,23 @@ pub fn answer_run(alloc: Global, inputs: &Inputs, ran: &Ran) -> Result<Answer, N
     Ok(Answer {
         status,
         journal: Items::from_vec(journal),
+        report: Items::from_vec(report),
+    })
+}
+
+/// The answer of a run that leaves no journal.
+pub fn answer_report(alloc: Global, inputs: &Inputs, ran: &Ran) -> Result<Answer, NoMemory>
+    requires valid { IsValid inputs.now.board }
+    requires memories { ran.now.bus.wiring.memories ≡ inputs.now.board.memory }
+    ensures answer { IfOk result (λ a. (m : Caching) → RanStandsFor inputs.now.board inputs.now.layout ran.now m → length m.cores ≡ length inputs.now.board.core → a ≡ report_answer inputs.now.board inputs.now.layout m) }
+    ensures journal { IfOk result (λ a. a.journal ≡ []) }
+    ensures status { IfOk result (λ a. a.status < 3) }
+{
+    let report = run_report(alloc, &inputs.board, &inputs.layout, ran)?;
+    let status = run_status(alloc, &inputs.board, &inputs.layout, ran)?;
+    Ok(Answer {
+        status,
+        journal: Items::new(alloc),
         report: Items::from_vec(report),
     })
 }

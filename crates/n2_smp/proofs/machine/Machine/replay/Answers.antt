@@ -6,4 +6,4 @@ use Rattle.n2_smp.proofs.machine.Machine.replay.Goals as goal
 pub returns-clause-records : goal.returns-clause-records
 returns-clause-records c = λ images long h.
     is_recorded c.args.self.now.board images c.args.self.now.map c.args.journal.now.content long c.rows.new.self c.rows.result
-    (c.rows.ensures (start c.args.self.now.board images) h (start_kept c.args.self.now.board images c.args.self.now.map long))
+    (c.rows.ensures.replayed (start c.args.self.now.board images) h (start_kept c.args.self.now.board images c.args.self.now.map long))

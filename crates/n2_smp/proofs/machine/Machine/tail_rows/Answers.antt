@@ -32,6 +32,8 @@ returns-then-not-tail_row c =
     let w = c.loop-core.invariant in
     let many : length c.loop-core.self.board.core ≡ length c.args.self.now.board.core = ap (λ (b : Board). length b.core) w.board in
     record {
+      board = c.tail_row.ensures.board ∙ w.board;
+      map = c.tail_row.ensures.map ∙ w.map;
       follows = λ m h kept.
           let x = w.way m h kept in
           let z = goes_off c.loop-core.self c.tail_row.new.self (tail_rows c.args.self.now.board c.args.self.now.map c.args.first 0 c.args.tails.now m)
@@ -49,6 +51,8 @@ returns-then-core-count c =
     let w = c.loop-core.invariant in
     let many : length c.loop-core.self.board.core ≡ length c.args.self.now.board.core = ap (λ (b : Board). length b.core) w.board in
     record {
+      board = w.board;
+      map = w.map;
       follows = λ m h kept.
           let x = w.way m h kept in
           rows_off c.loop-core.self (c.args.first + c.loop-core.core) (c.args.first + c.loop-core.core) x.state (tail_rows c.args.self.now.board c.args.self.now.map c.args.first 0 c.args.tails.now m)
@@ -60,6 +64,8 @@ returns-then-tails-count c =
     let w = c.loop-core.invariant in
     let many : length c.loop-core.self.board.core ≡ length c.args.self.now.board.core = ap (λ (b : Board). length b.core) w.board in
     record {
+      board = w.board;
+      map = w.map;
       follows = λ m h kept.
           let x = w.way m h kept in
           rows_off c.loop-core.self _ (c.args.first + c.loop-core.core) x.state (tail_rows c.args.self.now.board c.args.self.now.map c.args.first 0 c.args.tails.now m)
@@ -71,6 +77,8 @@ returns-then-not-over c =
     let w = c.loop-core.invariant in
     let many : length c.loop-core.self.board.core ≡ length c.args.self.now.board.core = ap (λ (b : Board). length b.core) w.board in
     record {
+      board = w.board;
+      map = w.map;
       follows = λ m h kept.
           let x = w.way m h kept in
           rows_off c.loop-core.self _ (c.args.first + c.loop-core.core) x.state (tail_rows c.args.self.now.board c.args.self.now.map c.args.first 0 c.args.tails.now m)
@@ -83,6 +91,8 @@ returns c =
     let w = c.loop-core.invariant in
     let many : length c.loop-core.self.board.core ≡ length c.args.self.now.board.core = ap (λ (b : Board). length b.core) w.board in
     record {
+      board = w.board;
+      map = w.map;
       follows = λ m h kept.
           let x = w.way m h kept in
           rows_on c.loop-core.self (tail_rows c.args.self.now.board c.args.self.now.map c.args.first 0 c.args.tails.now m) x.state

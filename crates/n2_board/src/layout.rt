@@ -104,9 +104,9 @@ impl Layout {
         Ok(layout)
     }
 
-    /// The class of a line, if a memory has it.
+    /// The class of a line, if a memory has it: one look in a table.
     #[inline(always)]
-    pub(crate) fn memory_class(&self, line: u32) -> Option<Class>
+    pub fn memory_class(&self, line: u32) -> Option<Class>
         ensures class { IfSome result (λ class. class ≡ spec.class_of self.now line) }
         ensures memory { (address : ℕ) → address / 32 ≡ line → MatchOption result (spec.place self.now address ≢ Place.Memory) (λ _. spec.place self.now address ≡ Place.Memory) }
     {

@@ -52,11 +52,7 @@ pub fn uarts(alloc: Global, rows: &[UartRow]) -> Result<Vec<Terminal>, NoMemory>
 {
     let mut uarts = Vec::new(alloc);
     for row in rows {
-        let terminal = Terminal::open(alloc, row)?;
-        match uarts.push(terminal) {
-            Ok(()) => (),
-            Err(_) => return Err(NoMemory),
-        }
+        uarts.push(Terminal::open(alloc, row)?)?;
     }
     Ok(uarts)
 }

@@ -8,10 +8,12 @@ ghost use Rattle.n2_outside.specs.Files.{Files, IsFile};
 ghost use Rattle.n2_outside.specs.Bytes.{appended, IsPart, Puts, PutsPrefix};
 
 mod file;
+mod gate;
 mod memory;
 mod system;
 
 pub use file::FileSink;
+pub use gate::{Gate, OpenGate};
 pub use memory::{MemFolder, MemSink, NullSink};
 use std::alloc::Global;
 pub use system::{DirFolder, StdSink, WriteSink};

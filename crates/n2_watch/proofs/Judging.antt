@@ -2,7 +2,7 @@
 use Rattle.std.proofs.Common.{◌≡◌, ℕ, Bool, cond, nat_eq, nat_lt, List, length, get_or, slice_get, Option, Some, None, Result, Ok, Err, true, false, refl, ap, sym, ◌∙◌, subst, option_map}
 use Rattle.n2_insn.specs.declared.DataOp.{DataOp}
 use Rattle.n2_insn.specs.declared.DataOp.TheVariants.{Initd, Initda}
-use Rattle.n2_parts.specs.declared.stops.Kind.TheVariants.{Flush, Lock}
+use Rattle.n2_parts.specs.declared.stops.Kind.TheVariants.{Flush, Lock, Separate}
 use Rattle.n2_watch.specs.declared.access.Broken.{Broken}
 use Rattle.n2_watch.specs.Past.{covers}
 use Rattle.n2_word.specs.declared.Width.{Width}
@@ -24,15 +24,15 @@ use Rattle.n2_board.specs.declared.places.Place.{Place}
 use Rattle.n2_board.specs.declared.places.Place.TheVariants.{Memory, Device, Nothing}
 use Rattle.n2_board.specs.declared.guards.Guard.{Guard}
 use Rattle.n2_board.specs.AddressMap.{AddressMap, class_of, place}
-use Rattle.n2_board.specs.Access.{data_target, fetch_violation, target_at}
-use Rattle.n2_board.specs.Guards.{passed_region}
+use Rattle.n2_board.specs.Access.{allows, memory_target, data_target, fetch_violation, target_at}
+use Rattle.n2_board.specs.Guards.{guard_of, passed_region}
 use Rattle.n2_watch.specs.declared.past.Past.{Past}
 use Rattle.n2_watch.specs.declared.access.Access.{Access}
 use Rattle.n2_watch.specs.declared.access.Access.TheVariants as accesses
 use mathlib.Core.Path.{fun_ext}
 use Rattle.n2_watch.specs.Book.{Book, knowledge, cpuid_of, sets_of, owned_by, pointer_of}
 use Rattle.n2_watch.specs.Table.{slot_of}
-use Rattle.n2_watch.specs.Discipline.{Knowledge, Strays, Breaks, unflushed, op_breach, direction, violation, cached_breach, bypass_breach, post_breach, is_post, side_breach, mailbox_breach, device_breach, breach}
+use Rattle.n2_watch.specs.Discipline.{Knowledge, Breach, Strays, Breaks, unflushed, op_breach, direction, violation, line_breach, cached_breach, bypass_breach, post_breach, is_post, side_breach, mailbox_breach, device_breach, breach}
 use Rattle.n2_watch.specs.Watched.{Watched, StandsFor, known, broken_at, address_of}
 
 pub op_drops : (who : Knowledge) (op : DataOp) (address : ℕ) → op ≡ Initd → unflushed who (λ number. covers who.sets op address number) ≡ op_breach who op address
@@ -67,6 +67,37 @@ unfolding breach
 bypass_word b map who address store value width n =
     ap (λ t. bypass_breach b map who t store value (line address)) (word_target map who.core address width Bypassing (direction store) (λ e. n (ap (λ t. bypass_breach b map who t store value (line address)) e)))
 
+-- ---- a load or store through the cache reaches memory by its line's class, and nothing else
+
+memory_reached : (map : AddressMap) (core address : ℕ) (width : Width) (d : Direction) → place map (without_bypass address) ≡ Memory → data_target map core address width Cached d ≡ memory_target (allows (class_of map (line address)) core Cached d)
+unfolding data_target
+memory_reached map core address width d h = ap (λ p. target_at p (class_of map (line address)) core width Cached d) h
+
+pub class_judged : (map : AddressMap) (who : Knowledge) (address number : ℕ) (width : Width) (d : Direction) (class : Class) (r : Option Breach) → number ≡ line address → place map (without_bypass address) ≡ Memory → class ≡ class_of map number → r ≡ cached_breach map who (memory_target (allows class who.core Cached d)) number → r ≡ cached_breach map who (data_target map who.core address width Cached d) (line address)
+class_judged map who address number width d class r e m c h =
+    h
+    ∙ ap (λ x. cached_breach map who (memory_target (allows x who.core Cached d)) number) c
+    ∙ ap (λ n. cached_breach map who (memory_target (allows (class_of map n) who.core Cached d)) n) e
+    ∙ ap (λ t. cached_breach map who t (line address)) (sym (memory_reached map who.core address width d m))
+
+pub line_judged : (map : AddressMap) (who : Knowledge) (number : ℕ) (d : Direction) (class : Class) (r : Option Breach) → allows class who.core Cached d ≡ true → class ≡ class_of map number → r ≡ line_breach map who (guard_of class) number → r ≡ cached_breach map who (memory_target (allows class who.core Cached d)) number
+line_judged map who number d class r a c h =
+    h ∙ ap (λ x. line_breach map who (guard_of x) number) c ∙ sym (ap (λ b. cached_breach map who (memory_target b) number) a)
+
+pub line_separate : (map : AddressMap) (who : Knowledge) (number : ℕ) (d : Direction) (class : Class) → allows class who.core Cached d ≡ false → Some (Breaks Separate number) ≡ cached_breach map who (memory_target (allows class who.core Cached d)) number
+line_separate map who number d class a = sym (ap (λ b. cached_breach map who (memory_target b) number) a)
+
+none_at : (p : Place) (class : Class) (core : ℕ) (width : Width) (d : Direction) (t : Target) → (p ≡ Memory → ⊥) → target_at p class core width Cached d ≡ Ok t → ⊥
+none_at Memory class core width d t n h = n refl
+none_at (Device part offset) class core Byte d t n h = absurd (cc)
+none_at (Device part offset) class core Half d t n h = absurd (cc)
+none_at (Device part offset) class core Word d t n h = absurd (cc)
+none_at Nothing class core width d t n h = absurd (cc)
+
+pub none_reached : (map : AddressMap) (core address : ℕ) (width : Width) (d : Direction) (t : Target) → (place map (without_bypass address) ≡ Memory → ⊥) → data_target map core address width Cached d ≡ Ok t → ⊥
+unfolding data_target
+none_reached map core address width d t n h = none_at (place map (without_bypass address)) (class_of map (line address)) core width d t n h
+
 -- ---- what the parts of the judge say is what the rules say
 
 pub judged_cached : (b : Board) (map : AddressMap) (who : Knowledge) (access : Access) (address : ℕ) (store : Bool) (width : Width) (o : Option Broken) → access ≡ accesses.Cached address store → (breach b map who access width ≡ Some Strays → ⊥) → o ≡ broken_at address (cached_breach map who (data_target map who.core address Word Cached (direction store)) (line address)) → o ≡ broken_at (address_of access) (breach b map who access width)
@@ -78,6 +109,10 @@ pub judged_bypass : (b : Board) (map : AddressMap) (who : Knowledge) (access : A
 judged_bypass b map who access address store value width o e n h =
     subst (λ a. (breach b map who a width ≡ Some Strays → ⊥) → o ≡ broken_at (address_of a) (breach b map who a width)) (sym e)
     (λ m. h ∙ ap (λ x. broken_at address x) (sym (bypass_word b map who address store value width m))) n
+
+touched : (b : Board) (map : AddressMap) (who : Knowledge) (address : ℕ) (store : Bool) (width : Width) → breach b map who (accesses.Cached address store) width ≡ cached_breach map who (data_target map who.core address width Cached (direction store)) (line address)
+unfolding breach
+touched b map who address store width = refl
 
 fetched : (b : Board) (map : AddressMap) (who : Knowledge) (address : ℕ) (width : Width) → breach b map who (accesses.Fetch address) width ≡ option_map (λ wrong. violation wrong (line address)) (fetch_violation map address)
 unfolding breach
@@ -150,3 +185,7 @@ same_breach b map w book past h access width =
     ∙ ap (λ x. breach b map (record { core = w.core; cpuid = cpuid_of b w.core; sets = x; owns = λ guard. get_or w.owned (slot_of guard) false; pointer = λ index. get_or w.pointers index 0; past = past }) access width) h.sets
     ∙ ap (λ x. breach b map (record { core = w.core; cpuid = cpuid_of b w.core; sets = sets_of b w.core; owns = x; pointer = λ index. get_or w.pointers index 0; past = past }) access width) owns
     ∙ same_pointers b map (knowledge b book w.core past) (λ index. get_or w.pointers index 0) (pointer_of book) h.pointers access width
+
+pub touch_judged : (b : Board) (map : AddressMap) (w : Watched) (book : Book) (past : List Past) → StandsFor b map w.core w book past → (address : ℕ) (store : Bool) (width : Width) (r : Option Breach) → r ≡ cached_breach map (known w past) (data_target map w.core address width Cached (direction store)) (line address) → r ≡ breach b map (knowledge b book w.core past) (accesses.Cached address store) width
+touch_judged b map w book past h address store width r e =
+    e ∙ sym (touched w.board map (known w past) address store width) ∙ same_breach b map w book past h (accesses.Cached address store) width

@@ -138,21 +138,20 @@ count_kept cleaned rs i r set w e =
     let y = ap bit e in
     omega (arith, z, y)
 
--- the count of a set after a record has another in its place that is dirty where it was not
-count_more : (cleaned counts : List ℕ) (rs : List Record) (i : ℕ) (q : Record) (set : ℕ) → i < length rs → length counts ≡ length cleaned → 0 < length cleaned → q.line ≡ (record_at rs i).line → is_dirty cleaned (record_at rs i) ≡ false → is_dirty cleaned q ≡ true → (own : Bool) → nat_eq ((record_at rs i).line % length cleaned) set ≡ own → get_or counts set 0 ≡ count (counted cleaned set) rs → get_or (slice_set counts ((record_at rs i).line % length cleaned) (get_or counts ((record_at rs i).line % length cleaned) 0 + 1)) set 0 ≡ count (counted cleaned set) (slice_set rs i q)
-count_more cleaned counts rs i q set w sizes some e was now true own h =
+-- the count of a set after a record has another in its place
+count_changed : (cleaned counts : List ℕ) (rs : List Record) (i : ℕ) (q : Record) (set n : ℕ) → i < length rs → length counts ≡ length cleaned → 0 < length cleaned → q.line ≡ (record_at rs i).line → n ≡ get_or counts ((record_at rs i).line % length cleaned) 0 + bit (is_dirty cleaned q) - bit (is_dirty cleaned (record_at rs i)) → (own : Bool) → nat_eq ((record_at rs i).line % length cleaned) set ≡ own → get_or counts set 0 ≡ count (counted cleaned set) rs → get_or (slice_set counts ((record_at rs i).line % length cleaned) n) set 0 ≡ count (counted cleaned set) (slice_set rs i q)
+count_changed cleaned counts rs i q set n w sizes some e change true own h =
     let s = (record_at rs i).line % length cleaned in
     let z : s ≡ set = grind (arith, nat_tests) in
     let v : s < length counts = omega arith in
-    let before : counted cleaned set (record_at rs i) ≡ false = ap (λ x. nat_eq s set && x) was ∙ rw own refl in
-    let after : counted cleaned set q ≡ true = ap (λ x. nat_eq (q.line % length cleaned) set && x) now ∙ ap (λ l. nat_eq (l % length cleaned) set && true) e ∙ rw own refl in
+    let before : counted cleaned set (record_at rs i) ≡ is_dirty cleaned (record_at rs i) = rw own refl in
+    let after : counted cleaned set q ≡ is_dirty cleaned q = ap (λ l. nat_eq (l % length cleaned) set && is_dirty cleaned q) e ∙ rw own refl in
     let c = count_set (counted cleaned set) rs i q w in
     let p = ap bit before in
     let r = ap bit after in
-    let g : get_or (slice_set counts s (get_or counts s 0 + 1)) s 0 ≡ get_or counts s 0 + 1 = get_or-set_same counts s (get_or counts s 0 + 1) 0 v in
     let k : get_or counts s 0 ≡ get_or counts set 0 = ap (λ x. get_or counts x 0) z in
-    ap (λ x. get_or (slice_set counts s (get_or counts s 0 + 1)) x 0) (sym z) ∙ g ∙ omega (arith, c, p, r, k, h)
-count_more cleaned counts rs i q set w sizes some e was now false own h =
+    ap (λ x. get_or (slice_set counts s n) x 0) (sym z) ∙ get_or-set_same counts s n 0 v ∙ omega (arith, change, c, p, r, k, h)
+count_changed cleaned counts rs i q set n w sizes some e change false own h =
     let s = (record_at rs i).line % length cleaned in
     let z : set ≢ s = λ x. absurd (grind (arith, nat_tests)) in
     let before : counted cleaned set (record_at rs i) ≡ false = rw own refl in
@@ -160,31 +159,7 @@ count_more cleaned counts rs i q set w sizes some e was now false own h =
     let c = count_set (counted cleaned set) rs i q w in
     let p = ap bit before in
     let r = ap bit after in
-    get_or-set_other counts s set (get_or counts s 0 + 1) 0 z ∙ omega (arith, c, p, r, h)
-
--- the same where the record that was dirty is not any more
-count_less : (cleaned counts : List ℕ) (rs : List Record) (i : ℕ) (q : Record) (set : ℕ) → i < length rs → length counts ≡ length cleaned → 0 < length cleaned → q.line ≡ (record_at rs i).line → is_dirty cleaned (record_at rs i) ≡ true → is_dirty cleaned q ≡ false → (own : Bool) → nat_eq ((record_at rs i).line % length cleaned) set ≡ own → get_or counts set 0 ≡ count (counted cleaned set) rs → get_or (slice_set counts ((record_at rs i).line % length cleaned) (get_or counts ((record_at rs i).line % length cleaned) 0 - 1)) set 0 ≡ count (counted cleaned set) (slice_set rs i q)
-count_less cleaned counts rs i q set w sizes some e was now true own h =
-    let s = (record_at rs i).line % length cleaned in
-    let z : s ≡ set = grind (arith, nat_tests) in
-    let v : s < length counts = omega arith in
-    let before : counted cleaned set (record_at rs i) ≡ true = ap (λ x. nat_eq s set && x) was ∙ rw own refl in
-    let after : counted cleaned set q ≡ false = ap (λ x. nat_eq (q.line % length cleaned) set && x) now ∙ ap (λ l. nat_eq (l % length cleaned) set && false) e ∙ rw own refl in
-    let c = count_set (counted cleaned set) rs i q w in
-    let p = ap bit before in
-    let r = ap bit after in
-    let g : get_or (slice_set counts s (get_or counts s 0 - 1)) s 0 ≡ get_or counts s 0 - 1 = get_or-set_same counts s (get_or counts s 0 - 1) 0 v in
-    let k : get_or counts s 0 ≡ get_or counts set 0 = ap (λ x. get_or counts x 0) z in
-    ap (λ x. get_or (slice_set counts s (get_or counts s 0 - 1)) x 0) (sym z) ∙ g ∙ omega (arith, c, p, r, k, h)
-count_less cleaned counts rs i q set w sizes some e was now false own h =
-    let s = (record_at rs i).line % length cleaned in
-    let z : set ≢ s = λ x. absurd (grind (arith, nat_tests)) in
-    let before : counted cleaned set (record_at rs i) ≡ false = rw own refl in
-    let after : counted cleaned set q ≡ false = ap (λ l. nat_eq (l % length cleaned) set && is_dirty cleaned q) e ∙ rw own refl in
-    let c = count_set (counted cleaned set) rs i q w in
-    let p = ap bit before in
-    let r = ap bit after in
-    get_or-set_other counts s set (get_or counts s 0 - 1) 0 z ∙ omega (arith, c, p, r, h)
+    get_or-set_other counts s set n 0 z ∙ omega (arith, c, p, r, h)
 
 -- what a Touch makes of a record is dirty where it stored, and else as dirty as before
 stored_dirty : (map : AddressMap) (t : Table) (past : List Past) (r : Record) → LineFor map t past r → is_dirty t.cleaned (touched (cleaned_for t.cleaned r) (t.clock + 1) true r) ≡ true
@@ -200,7 +175,8 @@ touch_counts map t past i w a h set l true true e =
 touch_counts map t past i w a h set l true false e =
     let r = record_at t.records i in
     let n = stored_dirty map t past r (h.lines i w) in
-    rw e (count_more t.cleaned t.counts t.records i (touched (cleaned_for t.cleaned r) (t.clock + 1) true r) set w a.counts a.sets refl e n (nat_eq (r.line % length t.cleaned) set) refl (h.counts set l))
+    let m : get_or t.counts (r.line % length t.cleaned) 0 + 1 ≡ get_or t.counts (r.line % length t.cleaned) 0 + bit (is_dirty t.cleaned (touched (cleaned_for t.cleaned r) (t.clock + 1) true r)) - bit (is_dirty t.cleaned r) = omega (arith, ap bit n, ap bit e) in
+    rw e (count_changed t.cleaned t.counts t.records i (touched (cleaned_for t.cleaned r) (t.clock + 1) true r) set _ w a.counts a.sets refl m (nat_eq (r.line % length t.cleaned) set) refl (h.counts set l))
 
 pub touch_stands : (map : AddressMap) (t : Table) (past : List Past) (i : ℕ) (store : Bool) → i < length t.records → IsTable map t → Stand map t past → Stand map (after_touch t i store) (Touch (record_at t.records i).line store ∷ past)
 touch_stands map t past i store w a h =
@@ -247,7 +223,8 @@ emptied_clean cleaned r = grind (arith, nat_tests)
 clean_counts : (map : AddressMap) (t : Table) (past : List Past) (i : ℕ) → i < length t.records → IsTable map t → Stand map t past → (set : ℕ) → set < length t.cleaned → (d : Bool) → is_dirty t.cleaned (record_at t.records i) ≡ d → get_or (after_clean_line t i).counts set 0 ≡ count (counted t.cleaned set) (after_clean_line t i).records
 clean_counts map t past i w a h set l true e =
     let r = record_at t.records i in
-    rw e (count_less t.cleaned t.counts t.records i (emptied r) set w a.counts a.sets refl e (emptied_clean t.cleaned r) (nat_eq (r.line % length t.cleaned) set) refl (h.counts set l))
+    let m : get_or t.counts (r.line % length t.cleaned) 0 - 1 ≡ get_or t.counts (r.line % length t.cleaned) 0 + bit (is_dirty t.cleaned (emptied r)) - bit (is_dirty t.cleaned r) = omega (arith, ap bit (emptied_clean t.cleaned r), ap bit e) in
+    rw e (count_changed t.cleaned t.counts t.records i (emptied r) set _ w a.counts a.sets refl m (nat_eq (r.line % length t.cleaned) set) refl (h.counts set l))
 clean_counts map t past i w a h set l false e =
     let r = record_at t.records i in
     rw e (h.counts set l ∙ sym (count_kept t.cleaned t.records i (emptied r) set w (bits_same t.cleaned set (emptied r) r refl (emptied_clean t.cleaned r ∙ sym e))))

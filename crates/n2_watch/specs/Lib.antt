@@ -1,6 +1,7 @@
 pub mod Past
 pub mod InWords
 pub mod Discipline
+pub mod Judged
 pub mod Book
 pub mod World
 pub mod Kept

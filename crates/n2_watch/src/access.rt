@@ -33,3 +33,13 @@ pub struct Broken {
     pub address: u32,
     pub line: u32,
 }
+
+/// What is said of a load or store through the cache: it passes, with the place where its note looks
+/// for the record of its line first; it is refused; or it strays. The place is a hint: a note at
+/// another place searches.
+#[derive(Clone, Copy, Debug, PartialEq, Eq)]
+pub enum Judged {
+    Passed(usize),
+    Refused(Broken),
+    Stray,
+}

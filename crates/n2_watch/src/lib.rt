@@ -10,7 +10,7 @@ mod records;
 mod runs;
 mod watch;
 
-pub use access::{Access, Broken};
+pub use access::{Access, Broken, Judged};
 pub use notes::Done;
 pub use past::Past;
 pub use watch::Watch;

@@ -107,15 +107,17 @@ fn note_owner(records: &mut Records, guard: Guard, before: bool, after: bool)
 }
 
 impl Watch {
-    /// A load or store of a line through the cache.
+    /// Notes a load or store of a line through the cache, while the clock has room. The access was
+    /// judged before and passed, with the place where the record of its line is looked for first.
     #[inline(always)]
-    fn note_touched(&mut self, line: u32, store: bool)
+    pub fn note_touched_at(&mut self, place: usize, line: u32, store: bool)
         requires { self.old.table.clock + 1 < 2 ^ 64 }
+        ensures once { IsNotedOnce self.old self.new }
         ensures noted { IsWatchNoted self.old self.new }
         ensures stands { (b : BoardValue) (map : AddressMap) (book : Book) (past : List PastEvent) (address : ℕ) (width : WidthValue) → StandsFor b map self.old.core self.old book past → line ≡ line_number address → rules.breach b map (knowledge b book self.old.core past) (accesses.Cached address store) width ≡ None → StandsFor b map self.old.core self.new book (Touch line store ∷ past) }
     {
         n2_board::laws::in_memory();
-        self.records.note_touch(line, store);
+        self.records.note_touch_at(place, line, store);
     }
 
     /// A data cache operation.
@@ -266,7 +268,7 @@ impl Watch {
         ensures received { (b : BoardValue) (images : List Image) (w : World) (past : List PastEvent) (address : ℕ) (took : Bool) (pointer : ℕ) → done.now ≡ Done.Received address took pointer → IsLetPast b images layout.now self.old.core w past (word_access address None) → took ≡ (accessed b layout.now self.old.core w (word_access address None)).reply.took → pointer ≡ (accessed b layout.now self.old.core w (word_access address None)).reply.pointer → StandsFor b layout.now self.old.core self.old w.book past → StandsFor b layout.now self.old.core self.new (accessed b layout.now self.old.core w (word_access address None)).world.book (past_accessed b layout.now self.old.core w past (word_access address None)) }
     {
         match done {
-            Done::Touched { line, store } => self.note_touched(*line, *store),
+            Done::Touched { line, store } => self.note_touched_at(0, *line, *store),
             Done::Cleaned { op, address } => self.note_cleaned(*op, *address),
             Done::Wrote {
                 address,

@@ -1,6 +1,6 @@
 //! The records of a core's lines: what its past events say of each, in constant time.
 
-ghost use Rattle.std.specs.Prelude.{◌≡◌, ◌↔◌, ℕ, ◌+◌, ◌<◌, ◌≤◌, ◌^◌, ◌==◌, ◌&&◌, List, ◌∷◌, IsTrue, IfNone, IfOk, IfSome, length, get_or, replicate};
+ghost use Rattle.std.specs.Prelude.{◌≡◌, ◌↔◌, ℕ, ◌+◌, ◌<◌, ◌≤◌, ◌^◌, ◌==◌, ◌&&◌, List, ◌∷◌, IsTrue, IfNone, IfOk, IfSome, length, get_or, replicate, is_none};
 ghost use Rattle.std.specs.Int.{is_power_of_two};
 ghost use Rattle.n2_word.specs.Lines.{line as line_number, set_for};
 ghost use Rattle.n2_insn.specs.declared.DataOp.{DataOp as DataOpValue};
@@ -345,14 +345,21 @@ impl Records {
 
 /// What records say of the past events that they stand for.
 impl Records {
-    /// Whether a line is stale.
+    /// The place of a line's record, unless the line is stale. A line without a record is not, and
+    /// its place says nothing.
     #[inline(always)]
-    pub fn is_line_stale(&self, line: u32) -> bool
-        ensures { (map : AddressMap) (past : List PastEvent) → LinesStand map self.now past → result ≡ stale map (length self.now.cleaned) past line }
+    pub fn place_unless_stale(&self, line: u32) -> Option<usize>
+        ensures { (map : AddressMap) (past : List PastEvent) → LinesStand map self.now past → is_none result ≡ stale map (length self.now.cleaned) past line }
     {
         match self.find(line) {
-            Some(i) => self.is_stale(&self.records[i]),
-            None => false,
+            Some(i) => {
+                if self.is_stale(&self.records[i]) {
+                    None
+                } else {
+                    Some(i)
+                }
+            }
+            None => Some(0),
         }
     }
 
@@ -430,9 +437,8 @@ impl Records {
 
 /// Notes of events. The clock counts them.
 impl Records {
-    /// A Touch of a line.
-    #[inline(always)]
-    pub fn note_touch(&mut self, line: u32, store: bool)
+    /// A Touch of a line: its record is searched for.
+    fn note_touch(&mut self, line: u32, store: bool)
         requires { self.old.clock + 1 < 2 ^ 64 }
         ensures noted { IsNoted self.old self.new }
         ensures stands { (map : AddressMap) (past : List PastEvent) → IsRecorded self.old.records line → LinesStand map self.old past → LinesStand map self.new (Touch line store ∷ past) }
@@ -440,6 +446,20 @@ impl Records {
         match self.find(line) {
             Some(i) => self.touch(i, store),
             None => self.pass(),
+        }
+    }
+
+    /// A Touch of a line, whose record may be at a place.
+    #[inline(always)]
+    pub fn note_touch_at(&mut self, place: usize, line: u32, store: bool)
+        requires { self.old.clock + 1 < 2 ^ 64 }
+        ensures noted { IsNoted self.old self.new }
+        ensures stands { (map : AddressMap) (past : List PastEvent) → IsRecorded self.old.records line → LinesStand map self.old past → LinesStand map self.new (Touch line store ∷ past) }
+    {
+        if is_at(self.records.as_slice(), place, line) {
+            self.touch(place, store);
+        } else {
+            self.note_touch(line, store);
         }
     }
 

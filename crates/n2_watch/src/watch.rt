@@ -3,15 +3,18 @@
 ghost use Rattle.std.specs.Prelude.{◌≡◌, ◌≢◌, ◌↔◌, ◌==◌, ◌&&◌, IsTrue, ◌+◌, ◌^◌, ℕ, Bool, List, ◌<◌, Some, None, Ok, Err, false, option_map, get_or, slice_get, length, IfOk, []};
 ghost use Rattle.std.specs.List.{list_any};
 ghost use Rattle.n2_word.specs.declared.Width.{Width as WidthValue};
-ghost use Rattle.n2_word.specs.Lines.{line as line_number};
+ghost use Rattle.n2_word.specs.Lines.{line as line_number, without_bypass};
 ghost use Rattle.n2_parts.specs.declared.stops.Kind.TheVariants as kinds;
+ghost use Rattle.n2_board.specs.declared.places.Place.TheVariants as places;
 ghost use Rattle.n2_board.specs.declared.guards.Guard.{Guard as GuardValue};
 ghost use Rattle.n2_board.specs.declared.guards.Guard.TheVariants as guard_kinds;
-ghost use Rattle.n2_board.specs.Access.{data_target, fetch_violation};
-ghost use Rattle.n2_board.specs.AddressMap.{AddressMap, class_of};
+ghost use Rattle.n2_board.specs.Access.{allows, memory_target, data_target, fetch_violation};
+ghost use Rattle.n2_board.specs.AddressMap.{AddressMap, class_of, place};
 ghost use Rattle.n2_board.specs.Guards.{guard_of, passed_region};
 ghost use Rattle.n2_watch.specs.declared.past.Past.{Past as PastEvent};
 ghost use Rattle.n2_watch.specs.Past.{covers, guards, dirty, lowest};
+ghost use Rattle.n2_watch.specs.Judged.{breach_of, IsRefusedAt};
+ghost use Rattle.n2_watch.specs.declared.access.Access.TheVariants as accesses;
 ghost use Rattle.n2_watch.specs.Table.{slot_of};
 ghost use Rattle.n2_watch.specs.Stands.{LinesStand};
 ghost use Rattle.n2_watch.specs.Discipline as rules;
@@ -19,7 +22,7 @@ ghost use Rattle.n2_parts.specs.declared.board.Board.{Board as BoardValue};
 ghost use Rattle.n2_watch.specs.Book.{Book, start_book, knowledge};
 ghost use Rattle.n2_watch.specs.Watched.{IsMapOf, StandsFor, known, broken_at, address_of};
 
-use crate::access::{Access, Broken};
+use crate::access::{Access, Broken, Judged};
 use crate::opening::{SLOTS, cpuid_of, open_lines, open_owned, open_pointers, sets_of};
 use crate::records::{Records, slot_of};
 use n2_board::{
@@ -73,6 +76,46 @@ fn direction(store: bool) -> Direction
         Direction::Store
     } else {
         Direction::Load
+    }
+}
+
+/// Whether a class lets a core load or store a line through its cache.
+#[inline(always)]
+fn lets(class: Class, core: u32, store: bool) -> bool
+    ensures { result ≡ allows class core Route.Cached (rules.direction store) }
+{
+    match class {
+        Class::Code => !store,
+        Class::Private(owner) => owner == core,
+        Class::Mutex(_) => true,
+        Class::Passed(_) => true,
+        Class::Uncached => false,
+        Class::Absent => false,
+    }
+}
+
+/// A refusal by a rule.
+#[inline(always)]
+fn refused(kind: Kind, address: u32, line: u32) -> Judged
+    ensures address { IsRefusedAt address result }
+    ensures breach { breach_of result ≡ Some (rules.Breaks kind line) }
+{
+    Judged::Refused(Broken {
+        kind,
+        address,
+        line,
+    })
+}
+
+/// The refusal of a load or store through the cache, if it is refused.
+#[inline(always)]
+fn refusal(judged: Judged) -> Option<Broken>
+    ensures { (address : ℕ) → IsRefusedAt address judged → result ≡ broken_at address (breach_of judged) }
+{
+    match judged {
+        Judged::Passed(_) => None,
+        Judged::Refused(broken) => Some(broken),
+        Judged::Stray => None,
     }
 }
 
@@ -169,26 +212,23 @@ impl Watch {
         }
     }
 
-    /// A line that is stale.
+    /// A line that is stale is refused.
     #[inline(always)]
-    fn judge_stale(&self, address: u32, line: u32) -> Option<Broken>
-        ensures { (map : AddressMap) (past : List PastEvent) → LinesStand map self.now.table past → result ≡ broken_at address (rules.if_stale map (known self.now past) line) }
+    fn judge_stale(&self, address: u32, line: u32) -> Judged
+        ensures address { IsRefusedAt address result }
+        ensures breach { (map : AddressMap) (past : List PastEvent) → LinesStand map self.now.table past → breach_of result ≡ rules.if_stale map (known self.now past) line }
     {
-        if self.records.is_line_stale(line) {
-            Some(Broken {
-                kind: Kind::Invalidate,
-                address,
-                line,
-            })
-        } else {
-            None
+        match self.records.place_unless_stale(line) {
+            Some(place) => Judged::Passed(place),
+            None => refused(Kind::Invalidate, address, line),
         }
     }
 
-    /// A line whose guard is not owned, or that is stale.
+    /// A line whose guard is not owned, or that is stale, is refused.
     #[inline(always)]
-    fn judge_line(&self, guard: Option<Guard>, address: u32, line: u32) -> Option<Broken>
-        ensures { (map : AddressMap) (past : List PastEvent) → LinesStand map self.now.table past → result ≡ broken_at address (rules.line_breach map (known self.now past) guard line) }
+    fn judge_line(&self, guard: Option<Guard>, address: u32, line: u32) -> Judged
+        ensures address { IsRefusedAt address result }
+        ensures breach { (map : AddressMap) (past : List PastEvent) → LinesStand map self.now.table past → breach_of result ≡ rules.line_breach map (known self.now past) guard line }
     {
         match guard {
             None => self.judge_stale(address, line),
@@ -196,38 +236,62 @@ impl Watch {
                 if self.owns(guard) {
                     self.judge_stale(address, line)
                 } else {
-                    Some(Broken {
-                        kind: Kind::Lock,
-                        address,
-                        line,
-                    })
+                    refused(Kind::Lock, address, line)
                 }
             }
         }
     }
 
-    /// A load or store through the cache.
+    /// A load or store of a line of memory through the cache, by the line's class.
     #[inline(always)]
-    fn judge_cached(&self, layout: &Layout, address: u32, store: bool) -> Option<Broken>
-        ensures { (past : List PastEvent) → LinesStand layout.now self.now.table past → result ≡ broken_at address (rules.cached_breach layout.now (known self.now past) (data_target layout.now self.now.core address Width.Word Route.Cached (rules.direction store)) (line_number address)) }
+    fn judge_class(&self, class: Class, address: u32, line: u32, store: bool) -> Judged
+        ensures address { IsRefusedAt address result }
+        ensures breach { (map : AddressMap) (past : List PastEvent) → LinesStand map self.now.table past → class ≡ class_of map line → breach_of result ≡ rules.cached_breach map (known self.now past) (memory_target (allows class self.now.core Route.Cached (rules.direction store))) line }
+    {
+        if lets(class, self.core, store) {
+            self.judge_line(guard_of(class), address, line)
+        } else {
+            refused(Kind::Separate, address, line)
+        }
+    }
+
+    /// A load or store outside of memories through the cache.
+    fn judge_outside(&self, layout: &Layout, address: u32, width: Width, store: bool) -> Judged
+        requires { place layout.now (without_bypass address) ≢ places.Memory }
+        ensures address { IsRefusedAt address result }
+        ensures breach { (past : List PastEvent) → breach_of result ≡ rules.cached_breach layout.now (known self.now past) (data_target layout.now self.now.core address width Route.Cached (rules.direction store)) (line_number address) }
+    {
+        let target = layout.data_target(self.core, address, width, Route::Cached, direction(store));
+        match target {
+            Err(Violation::Separate) => refused(Kind::Separate, address, line_of(address)),
+            Err(Violation::Stray) => Judged::Stray,
+            // Nothing outside of memories is reached through the cache.
+            Ok(_) => Judged::Stray,
+        }
+    }
+
+    /// A load or store through the cache, by the rules on what the watch knows.
+    #[inline(always)]
+    fn judge_touch(&self, layout: &Layout, address: u32, width: Width, store: bool) -> Judged
+        ensures address { IsRefusedAt address result }
+        ensures breach { (past : List PastEvent) → LinesStand layout.now self.now.table past → breach_of result ≡ rules.cached_breach layout.now (known self.now past) (data_target layout.now self.now.core address width Route.Cached (rules.direction store)) (line_number address) }
     {
         let line = line_of(address);
-        let target = layout.data_target(
-            self.core,
-            address,
-            Width::Word,
-            Route::Cached,
-            direction(store),
-        );
-        match target {
-            Ok(_) => self.judge_line(guard_of(layout.class_of(line)), address, line),
-            Err(Violation::Separate) => Some(Broken {
-                kind: Kind::Separate,
-                address,
-                line,
-            }),
-            Err(Violation::Stray) => None,
+        match layout.memory_class(line) {
+            Some(class) => self.judge_class(class, address, line, store),
+            None => self.judge_outside(layout, address, width, store),
         }
+    }
+
+    /// What the discipline says of a load or store through the cache, in a layout of the board that
+    /// the watch was opened with. An access of memory takes one look in the layout and one search for
+    /// the record of its line.
+    #[inline(always)]
+    pub fn judge_cached(&self, layout: &Layout, address: u32, width: Width, store: bool) -> Judged
+        ensures address { IsRefusedAt address result }
+        ensures breach { (b : BoardValue) (book : Book) (past : List PastEvent) → StandsFor b layout.now self.now.core self.now book past → breach_of result ≡ rules.breach b layout.now (knowledge b book self.now.core past) (accesses.Cached address store) width }
+    {
+        self.judge_touch(layout, address, width, store)
     }
 
     /// The fetch of an instruction.
@@ -437,7 +501,9 @@ impl Watch {
         ensures { (past : List PastEvent) (width : WidthValue) → LinesStand layout.now self.now.table past → rules.breach self.now.board layout.now (known self.now past) access.now width ≢ Some rules.Strays → result ≡ broken_at (address_of access.now) (rules.breach self.now.board layout.now (known self.now past) access.now width) }
     {
         match access {
-            Access::Cached { address, store } => self.judge_cached(layout, *address, *store),
+            Access::Cached { address, store } => {
+                refusal(self.judge_touch(layout, *address, Width::Word, *store))
+            }
             Access::Bypass {
                 address,
                 store,

@@ -4,6 +4,7 @@ pub mod Lines
 pub mod Touching
 pub mod Meaning
 pub mod Doing
+pub mod Quiet
 pub mod Turning
 pub mod Bypassing
 pub mod Making

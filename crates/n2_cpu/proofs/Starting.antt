@@ -1,6 +1,7 @@
 -- A core before its first turn.
 use Rattle.std.proofs.Common.{◌≡◌, ℕ, ◌<◌, ◌≤◌, leb, eqb, not, Bool, List, [], ◌∷◌, length, Option, Some, None, slice_get, refl, sym, ap, subst, ◌∙◌, arith}
 use Rattle.std.specs.Prelude.{option_and_then}
+use Rattle.std.proofs.Math.Nat.{zero-mod}
 use Rattle.std.proofs.lemmas.Option.{slice_get_within, none-some}
 use Rattle.std.proofs.lemmas.Bool.{leb-true, and_parts}
 use Rattle.n2_word.specs.Lines.{is_cache_size}
@@ -66,7 +67,7 @@ none_code b map slots bytes e = record {
 
 -- ---- a core before its first turn
 abbrev pub clock_at : Board → ℕ → CoreRow → Clock
-clock_at b core row = record { number = core; turns = 0; local = 0; limit = b.turns; sample = row.sample; evict = row.evict }
+clock_at b core row = record { number = core; turns = 0; local = 0; limit = b.turns; sample = row.sample; evict = row.evict; quiet = 0 }
 
 module _ (b : Board) (map : AddressMap) (core : ℕ) (within : core < length b.core) (row : CoreRow) (found : slice_get b.core core ≡ Some row) (m : IsMapOf b map) (clock : Clock) (clock_is : clock ≡ clock_at b core row) (watch : Watched) (stands : watched.StandsFor b map core watch (start_book b) []) where
   opened_slots : HasSlots watch
@@ -80,7 +81,7 @@ module _ (b : Board) (map : AddressMap) (core : ℕ) (within : core < length b.c
         running = λ e. omega (arith, t.0);
         notes = omega (arith, none);
         local = omega arith;
-        sample = omega (arith, n);
+        quiet = record { no_sample = omega (arith, n, zero-mod row.sample); no_evict = λ some. omega (arith, some, zero-mod row.evict) };
         fits = omega (arith, t.1);
         slots = opened_slots;
       }

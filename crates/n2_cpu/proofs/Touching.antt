@@ -23,10 +23,6 @@ use Rattle.n2_front.specs.Turn.{Turned, is_in_way, with_line, emptied, loads, st
 use Rattle.n2_cpu.specs.Stands.{Holds, IsTurned, core_now}
 use Rattle.n2_cpu.proofs.Lines.{there_dropped, there_brought, there_stored, touched_there}
 
--- what stands in the cache after the line was asked for
-abbrev pub asked_slots : List (Option Held) → ℕ → Reply → List (Option Held)
-asked_slots slots number reply = if is_in_way slots number then set_dropped slots (own_set slots number) else with_line slots number reply
-
 module _ (b : Board) (map : AddressMap) (book : Book) (past : List Past) (s : State) (h : Holds b map s book past) where
   emptied_by : (set : ℕ) (slots : List (Option Held)) → slots ≡ set_dropped s.dcache set → IsTurned b map (record { clock = s.clock; regs = s.regs; stop = s.stop; dcache = slots; icache = s.icache; watch = s.watch }) None book (emptied (core_now s past) set)
   emptied_by set slots e = record {
@@ -39,9 +35,9 @@ module _ (b : Board) (map : AddressMap) (book : Book) (past : List Past) (s : St
   }
 
   -- what is dirty goes first
-  pub in_way : (number : ℕ) (slots : List (Option Held)) (reply : Reply) (t : Turned) (way : Bool) → way ≡ is_in_way s.dcache number → false ≡ not way → slots ≡ (if way then set_dropped s.dcache (own_set s.dcache number) else with_line s.dcache number reply) → IsTurned b map (record { clock = s.clock; regs = s.regs; stop = s.stop; dcache = slots; icache = s.icache; watch = s.watch }) None book (if way then emptied (core_now s past) (own_set s.dcache number) else t)
-  in_way number slots reply t true w n e = emptied_by (own_set s.dcache number) slots e
-  in_way number slots reply t false w n e = absurd (cc)
+  pub in_way : (number : ℕ) (slots other : List (Option Held)) (t : Turned) (way : Bool) → way ≡ is_in_way s.dcache number → false ≡ not way → slots ≡ (if way then set_dropped s.dcache (own_set s.dcache number) else other) → IsTurned b map (record { clock = s.clock; regs = s.regs; stop = s.stop; dcache = slots; icache = s.icache; watch = s.watch }) None book (if way then emptied (core_now s past) (own_set s.dcache number) else t)
+  in_way number slots other t true w n e = emptied_by (own_set s.dcache number) slots e
+  in_way number slots other t false w n e = absurd (cc)
 
   module _ (address : ℕ) (width : Width) (reply : Reply) (slots : List (Option Held)) (regs : Regs) (watch : Watched) (act : Option Act) (acts : act ≡ Some (Retire s.clock.number)) where
     pub load_turned : (signed : Bool) (to value : ℕ) (t : Turned) (way : Bool) → way ≡ is_in_way s.dcache (line address) → true ≡ not way → breach b map (knowledge b book s.clock.number past) (Cached address false) width ≡ None
@@ -62,22 +58,20 @@ module _ (b : Board) (map : AddressMap) (book : Book) (past : List Past) (s : St
       };
     }
 
-    pub store_turned : (value : ℕ) (brought : List (Option Held)) (t : Turned) (way : Bool) → way ≡ is_in_way s.dcache (line address) → true ≡ not way → breach b map (knowledge b book s.clock.number past) (Cached address true) width ≡ None
-        → brought ≡ (if way then set_dropped s.dcache (own_set s.dcache (line address)) else with_line s.dcache (line address) reply) → slots ≡ stored brought address width value → regs ≡ passed_regs s.regs
+    pub store_turned : (value : ℕ) (t : Turned) (way : Bool) → way ≡ is_in_way s.dcache (line address) → true ≡ not way → breach b map (knowledge b book s.clock.number past) (Cached address true) width ≡ None
+        → slots ≡ (if way then set_dropped s.dcache (own_set s.dcache (line address)) else stored (with_line s.dcache (line address) reply) address width value) → regs ≡ passed_regs s.regs
         → StandsFor b map s.clock.number watch book (Touch (line address) true ∷ past)
         → IsTurned b map (record { clock = s.clock; regs = regs; stop = s.stop; dcache = slots; icache = s.icache; watch = watch }) act book (if way then t else stores (core_now s past) s.clock.number (core_now s past).front address width value (with_line s.dcache (line address) reply))
-    store_turned value brought t true w n br e v r stands = absurd (cc)
-    store_turned value brought t false w n br e v r stands =
-        let is : slots ≡ stored (with_line s.dcache (line address) reply) address width value = v ∙ ap (λ (x : List (Option Held)). stored x address width value) e in
-        record {
-          regs = r;
-          stop = refl;
-          data_slots = is;
-          code_slots = refl;
-          act = acts;
-          holds = record {
-            watch = stands;
-            data_lines = rw is (there_stored b (with_line s.dcache (line address) reply) (there_brought b s.dcache h.data_lines (line address) reply (touched_there b map book s.clock.number past address true width h.watch.map_of br)) address width value);
-            code_lines = h.code_lines;
-          };
-        }
+    store_turned value t true w n br e r stands = absurd (cc)
+    store_turned value t false w n br e r stands = record {
+      regs = r;
+      stop = refl;
+      data_slots = e;
+      code_slots = refl;
+      act = acts;
+      holds = record {
+        watch = stands;
+        data_lines = rw e (there_stored b (with_line s.dcache (line address) reply) (there_brought b s.dcache h.data_lines (line address) reply (touched_there b map book s.clock.number past address true width h.watch.map_of br)) address width value);
+        code_lines = h.code_lines;
+      };
+    }

@@ -1,7 +1,6 @@
 -- A turn of a value is the definition's turn.
-use Rattle.std.proofs.Common.{◌≡◌, ℕ, ◌+◌, ◌<◌, ◌≤◌, Bool, true, false, nat_lt, if◌then◌else◌, List, Option, Some, None, is_some, slice_get, refl, sym, ap, subst, ◌∙◌, arith}
+use Rattle.std.proofs.Common.{◌≡◌, ℕ, ◌+◌, ◌<◌, ◌≤◌, Bool, true, false, nat_lt, if◌then◌else◌, List, length, Option, Some, None, is_some, slice_get, refl, sym, ap, subst, ◌∙◌, arith}
 use Rattle.std.specs.Option.{option_or}
-use Rattle.std.proofs.lemmas.Bool.{ltb-true}
 use Rattle.n2_exec.specs.declared.registers.Regs.{Regs}
 use Rattle.n2_exec.specs.declared.Asked.TheVariants as asked
 use Rattle.n2_parts.specs.declared.board.Board.{Board}
@@ -14,7 +13,7 @@ use Rattle.n2_bus.specs.declared.request.Request.{Request}
 use Rattle.n2_dcache.specs.declared.Held.{Held}
 use Rattle.n2_watch.specs.declared.past.Past.{Past}
 use Rattle.n2_watch.specs.World.{World, Transferred}
-use Rattle.n2_watch.specs.Watched.{IsGuardOf}
+use Rattle.n2_watch.specs.Watched.{Watched, IsGuardOf}
 use Rattle.n2_cpu.specs.declared.aim.Aim.{Aim}
 use Rattle.n2_cpu.specs.declared.aim.Aim.TheVariants as aims
 use Rattle.n2_cpu.specs.declared.state.Clock.{Clock}
@@ -22,7 +21,7 @@ use Rattle.n2_cpu.specs.declared.state.State.{State}
 use Rattle.n2_front.specs.Core.{Core, Ended, Spent, LogFull, ended_stop, stop_of, ended_after}
 use Rattle.n2_front.specs.Turn.{Intent, Turned, CoreTurn, answered, wants_by, wants, intent, served_by, local_after, core_after, turn_of, turn_with, core_turn}
 use Rattle.n2_cpu.specs.Aims.{intent_of, Keeps}
-use Rattle.n2_cpu.specs.Stands.{HasRoom, IsSound, IsTurned, IsPart, IsMade, IsNext, StandsFor, core_now, with_registers, counted_stop, counted_local, counted}
+use Rattle.n2_cpu.specs.Stands.{HasRoom, IsQuiet, IsSound, IsTurned, IsPart, IsMade, IsNext, StandsFor, core_now, with_registers, counted_stop, counted_local, counted}
 
 -- ---- a running core is the one that its value and its past events make
 pub running_parts : (o : Option Stop) (e : Option Ended) → option_or o (ended_stop e) ≡ None → (o ≡ None) × (e ≡ None)
@@ -87,8 +86,8 @@ local_counted None local now transfer e f = rw f (ap (λ (n : ℕ). n + 1) (sym 
 local_counted (Some request) local now transfer e f = rw f refl
 
 module _ (b : Board) (map : AddressMap) (s : State) (c : Core) (w : World) (h : StandsFor b map s.clock.number s c w) (o : Option Request) (transfer : Bool) (counts : transfer ≡ is_some o) where
-  stands_counted : (mid : State) (act : Option Act) (world : World) (t : Turned) → mid.clock ≡ s.clock → IsTurned b map mid act world.book t → StandsFor b map s.clock.number (counted mid transfer) (core_after b (core_now s c.front.past) t o) world
-  stands_counted mid act world t e m =
+  stands_counted : (mid : State) (act : Option Act) (world : World) (t : Turned) (quiet : ℕ) → mid.clock ≡ s.clock → IsTurned b map mid act world.book t → StandsFor b map s.clock.number (counted mid transfer quiet) (core_after b (core_now s c.front.past) t o) world
+  stands_counted mid act world t quiet e m =
       let limit : mid.clock.limit ≡ s.clock.limit = ap (λ (x : Clock). x.limit) e in
       let turns : mid.clock.turns ≡ s.clock.turns = ap (λ (x : Clock). x.turns) e in
       let next : mid.clock.turns + 1 ≡ s.clock.turns + 1 = ap (λ (n : ℕ). n + 1) turns in
@@ -155,7 +154,7 @@ module _ (b : Board) (map : AddressMap) (row : CoreRow) (s : State) (c : Core) (
 
     pub next : (new : State) (act : Option Act) (transfer : Bool) → transfer ≡ is_some the_request → IsMade b map (with_registers s r) new act transfer the_transfer.world.book the_answer → IsNext b map s.clock.number new act (core_turn b map s.clock.number row c w)
     next new act transfer counts m =
-        let stands = stands_counted b map s c w h the_request transfer counts m.middle act the_transfer.world the_answer m.clock m.turned in
+        let stands = stands_counted b map s c w h the_request transfer counts m.middle act the_transfer.world the_answer new.clock.quiet m.clock m.turned in
         subst (λ (t : CoreTurn). IsNext b map s.clock.number new act t) (sym turn_is)
         (record { stands = subst (λ (x : State). StandsFor b map s.clock.number x (core_after b the_core the_answer the_request) the_transfer.world) (sym m.counted) stands; act = m.turned.act })
 
@@ -163,26 +162,25 @@ module _ (b : Board) (map : AddressMap) (row : CoreRow) (s : State) (c : Core) (
 pub has_room : (s : State) → IsSound s → s.stop ≡ None → HasRoom s.watch
 has_room s h running = let lt = h.running running in record { clock = omega (arith, h.notes, lt, h.fits); slots = h.slots }
 
-limit_left : (turns limit : ℕ) (o : Option Stop) (t : Bool) → nat_lt turns limit ≡ t → counted_stop limit turns o ≡ None → turns < limit
-limit_left turns limit None true e n = ltb-true turns limit e
-limit_left turns limit None false e n = absurd (let z = rw e at n in cc)
-limit_left turns limit (Some stop) t e n = absurd (cc)
-
 local_left : (local turns : ℕ) (transfer : Bool) → local ≤ turns → counted_local local transfer ≤ turns + 1
 local_left local turns true le = omega arith
 local_left local turns false le = omega (arith, le)
 
-pub sound_counted : (old mid : State) (transfer : Bool) → IsSound old → old.stop ≡ None → IsPart old mid → IsSound (counted mid transfer)
-sound_counted old mid transfer h running p =
-    let turns : mid.clock.turns ≡ old.clock.turns = ap (λ (x : Clock). x.turns) p.clock in
-    let limit : mid.clock.limit ≡ old.clock.limit = ap (λ (x : Clock). x.limit) p.clock in
-    let local : mid.clock.local ≡ old.clock.local = ap (λ (x : Clock). x.local) p.clock in
-    let sample : mid.clock.sample ≡ old.clock.sample = ap (λ (x : Clock). x.sample) p.clock in
+pub sound_counted : (old mid new : State) (transfer : Bool) → IsSound old → IsPart old mid → new ≡ counted mid transfer new.clock.quiet → IsQuiet new.clock → (new.stop ≡ None → new.clock.quiet + new.clock.turns < new.clock.limit) → IsSound new
+sound_counted old mid new transfer h p e quiet end =
+    let turns : new.clock.turns ≡ old.clock.turns + 1 = ap (λ (x : State). x.clock.turns) e ∙ ap (λ (x : Clock). x.turns + 1) p.clock in
+    let limit : new.clock.limit ≡ old.clock.limit = ap (λ (x : State). x.clock.limit) e ∙ ap (λ (x : Clock). x.limit) p.clock in
+    let local : new.clock.local ≡ counted_local old.clock.local transfer = ap (λ (x : State). x.clock.local) e ∙ ap (λ (x : Clock). counted_local x.local transfer) p.clock in
+    let left = local_left old.clock.local old.clock.turns transfer h.local in
+    let watch : new.watch ≡ mid.watch = ap (λ (x : State). x.watch) e in
+    let board : new.watch.board ≡ old.watch.board = ap (λ (x : Watched). x.board) watch ∙ p.board in
+    let notes : new.watch.table.clock ≡ mid.watch.table.clock = ap (λ (x : Watched). x.table.clock) watch in
+    let slots : length new.watch.table.got ≡ length mid.watch.table.got = ap (λ (x : Watched). length x.table.got) watch in
     record {
-      running = λ n. limit_left (mid.clock.turns + 1) mid.clock.limit mid.stop (nat_lt (mid.clock.turns + 1) mid.clock.limit) refl n;
-      notes = omega (arith, h.notes, p.notes, turns);
-      local = local_left mid.clock.local mid.clock.turns transfer (omega (arith, h.local, local, turns));
-      sample = omega (arith, h.sample, sample);
+      running = end;
+      notes = omega (arith, h.notes, p.notes, turns, notes);
+      local = omega (arith, local, left, turns);
+      quiet = quiet;
       fits = omega (arith, h.fits, limit);
-      slots = λ guard g. (let x = h.slots guard (subst (λ (y : Board). IsGuardOf y guard) p.board g) in omega (arith, x, p.slots));
+      slots = λ guard g. (let x = h.slots guard (subst (λ (y : Board). IsGuardOf y guard) board g) in omega (arith, x, p.slots, slots));
     }

@@ -17,7 +17,16 @@ use Rattle.n2_front.specs.Front.{Front, with_regs}
 use Rattle.n2_front.specs.Tasks.{task_of, task_breach}
 use Rattle.n2_cpu.specs.declared.aim.Aim.{Aim}
 use Rattle.n2_cpu.specs.declared.aim.Aim.TheVariants as aims
+use Rattle.n2_front.specs.Core as fronts
+use Rattle.n2_cpu.specs.declared.state.TurnKind.{TurnKind}
+use Rattle.n2_cpu.specs.declared.state.TurnKind.TheVariants as kinds
 use Rattle.n2_front.specs.Turn.{Intent, Samples, Evicts, Interrupts, Stops, FillsCode, Does}
+
+-- the kind of a turn, as the definition names it
+abbrev pub kind_of : TurnKind → fronts.TurnKind
+kind_of kinds.Sample = fronts.SampleTurn
+kind_of kinds.Evict = fronts.EvictTurn
+kind_of kinds.Step = fronts.StepTurn
 
 -- with the registers as the instruction left them
 abbrev pub intent_of : Front → Regs → Aim → Intent

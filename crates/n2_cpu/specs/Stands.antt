@@ -1,5 +1,5 @@
 -- When a core's value stands for a core of the definitions.
-use Rattle.std.specs.Prelude.{◌≡◌, ℕ, ◌+◌, ◌^◌, ◌≤◌, ◌<◌, nat_lt, Bool, List, length, Option, Some, None, slice_get, if◌then◌else◌}
+use Rattle.std.specs.Prelude.{◌≡◌, ℕ, ◌+◌, ◌%◌, ◌^◌, ◌≤◌, ◌<◌, nat_lt, Bool, List, length, Option, Some, None, slice_get, if◌then◌else◌}
 use Rattle.n2_exec.specs.declared.registers.Regs.{Regs}
 use Rattle.n2_parts.specs.declared.board.Board.{Board}
 use Rattle.n2_parts.specs.declared.board.CoreRow.{CoreRow}
@@ -36,12 +36,21 @@ pub record HasRoom (w : Watched) : Type 0 where
   pub clock : w.table.clock + 1 < 2 ^ 64
   pub slots : HasSlots w
 
--- what a value keeps by itself: a running core has turns left, and there are at most as many notes as turns
+-- so many turns from a turn on neither sample nor evict
+pub record AreQuiet (sample evict turns quiet : ℕ) : Type 0 where
+  pub no_sample : quiet + turns % sample < sample
+  pub no_evict : 0 < evict → quiet + turns % evict < evict
+
+abbrev pub IsQuiet : Clock → Type 0
+IsQuiet clock = AreQuiet clock.sample clock.evict clock.turns clock.quiet
+
+-- what a value keeps by itself: a running core has turns left behind those that are quiet, and there are at most as many
+-- notes as turns
 pub record IsSound (s : State) : Type 0 where
-  pub running : s.stop ≡ None → s.clock.turns < s.clock.limit
+  pub running : s.stop ≡ None → s.clock.quiet + s.clock.turns < s.clock.limit
   pub notes : s.watch.table.clock ≤ s.clock.turns
   pub local : s.clock.local ≤ s.clock.turns
-  pub sample : 0 < s.clock.sample
+  pub quiet : IsQuiet s.clock
   pub fits : s.clock.limit < 2 ^ 64
   pub slots : HasSlots s.watch
 
@@ -98,10 +107,21 @@ counted_stop limit turns (Some stop) = Some stop
 abbrev pub counted_local : ℕ → Bool → ℕ
 counted_local local transfer = if transfer then 0 else local + 1
 
--- a value after its turn was counted
-abbrev pub counted : State → Bool → State
-counted s transfer = record {
-  clock = record { number = s.clock.number; turns = s.clock.turns + 1; local = counted_local s.clock.local transfer; limit = s.clock.limit; sample = s.clock.sample; evict = s.clock.evict };
+-- a value that is spent where it has made all its turns, with its number of quiet turns
+abbrev pub settled : State → ℕ → State
+settled s quiet = record {
+  clock = record { number = s.clock.number; turns = s.clock.turns; local = s.clock.local; limit = s.clock.limit; sample = s.clock.sample; evict = s.clock.evict; quiet = quiet };
+  regs = s.regs;
+  stop = counted_stop s.clock.limit s.clock.turns s.stop;
+  dcache = s.dcache;
+  icache = s.icache;
+  watch = s.watch;
+}
+
+-- a value after its turn was counted, with its number of quiet turns
+abbrev pub counted : State → Bool → ℕ → State
+counted s transfer quiet = record {
+  clock = record { number = s.clock.number; turns = s.clock.turns + 1; local = counted_local s.clock.local transfer; limit = s.clock.limit; sample = s.clock.sample; evict = s.clock.evict; quiet = quiet };
   regs = s.regs;
   stop = counted_stop s.clock.limit (s.clock.turns + 1) s.stop;
   dcache = s.dcache;
@@ -133,7 +153,7 @@ pub record IsMade (b : Board) (map : AddressMap) (old new : State) (made : Optio
   pub middle : State
   pub clock : middle.clock ≡ old.clock
   pub turned : IsTurned b map middle made book t
-  pub counted : new ≡ counted middle transfer
+  pub counted : new ≡ counted middle transfer new.clock.quiet
 
 -- a value stands for the definition's next core, with its act
 pub record IsNext (b : Board) (map : AddressMap) (k : ℕ) (new : State) (made : Option Act) (t : CoreTurn) : Type 0 where

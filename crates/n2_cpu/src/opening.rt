@@ -40,7 +40,7 @@ fn first_pc(row: &CoreRow, image: &Image) -> u32
 
 /// The counts of a core before its first turn.
 fn first_clock(core: u32, board: &Board, row: &CoreRow) -> Clock
-    ensures { result ≡ record { number = core; turns = 0; local = 0; limit = board.now.turns; sample = row.now.sample; evict = row.now.evict } }
+    ensures { result ≡ record { number = core; turns = 0; local = 0; limit = board.now.turns; sample = row.now.sample; evict = row.now.evict; quiet = 0 } }
 {
     Clock {
         number: core,
@@ -49,6 +49,7 @@ fn first_clock(core: u32, board: &Board, row: &CoreRow) -> Clock
         limit: board.turns,
         sample: u64::from(row.sample),
         evict: u64::from(row.evict),
+        quiet: 0,
     }
 }
 

@@ -1,6 +1,6 @@
 //! What a core does in a turn.
 
-ghost use Rattle.std.specs.Prelude.{◌≡◌, ℕ, ◌<◌, ◌+◌, ◌≤◌, true, false, not, List, ◌∷◌, length, None, Some, IsTrue, if◌then◌else◌};
+ghost use Rattle.std.specs.Prelude.{◌≡◌, ℕ, ◌<◌, ◌+◌, ◌≤◌, true, false, not, List, ◌∷◌, length, None, Some, is_some, IfSome, IsTrue, if◌then◌else◌};
 ghost use Rattle.n2_word.specs.declared.Width.{Width as WidthValue};
 ghost use Rattle.n2_word.specs.Words.{is_aligned};
 ghost use Rattle.n2_word.specs.Lines.{line as line_number, without_bypass};
@@ -11,7 +11,7 @@ ghost use Rattle.n2_parts.specs.declared.stops.Stop.TheVariants as stops;
 ghost use Rattle.n2_parts.specs.MemoryLines.{HasLine};
 ghost use Rattle.n2_board.specs.declared.classes.Class.TheVariants as classes;
 ghost use Rattle.n2_board.specs.AddressMap.{AddressMap, class_of};
-ghost use Rattle.n2_dcache.specs.Cache.{own_set, has_line, set_dropped, filled};
+ghost use Rattle.n2_dcache.specs.Cache.{own_set, has_line, loaded, stored, set_dropped, filled};
 ghost use Rattle.n2_watch.specs.declared.past.Past.{Past as PastEvent};
 ghost use Rattle.n2_watch.specs.declared.past.Past.TheVariants.{Touch, Clean};
 ghost use Rattle.n2_watch.specs.declared.access.Access.TheVariants as accesses;
@@ -53,6 +53,44 @@ fn bring(dcache: &mut DCache, line: u32, reply: &Reply) -> bool
     }
     dcache.fill(line, &reply.words);
     true
+}
+
+/// What a load reads from its line, which it brings into the cache where it is missing; None where
+/// something dirty was in its way. A line that is there is looked for once.
+#[inline(always)]
+fn load_line(dcache: &mut DCache, address: u32, width: Width, reply: &Reply) -> Option<u32>
+    requires { IsTrue (is_aligned address width) }
+    ensures room { is_some result ≡ not (spec.is_in_way dcache.old (line_number address)) }
+    ensures after { dcache.new ≡ (if spec.is_in_way dcache.old (line_number address) then set_dropped dcache.old (own_set dcache.old (line_number address)) else spec.with_line dcache.old (line_number address) reply.now) }
+    ensures value { IfSome result (λ value. value ≡ loaded dcache.new address width) }
+{
+    if let Some(value) = dcache.try_load(address, width) {
+        return Some(value);
+    }
+    if bring(dcache, line_of(address), reply) {
+        Some(dcache.load(address, width))
+    } else {
+        None
+    }
+}
+
+/// Stores into a line, which it brings into the cache where it is missing; false where something dirty
+/// was in its way. A line that is there is looked for once.
+#[inline(always)]
+fn store_line(dcache: &mut DCache, address: u32, width: Width, value: u32, reply: &Reply) -> bool
+    requires { IsTrue (is_aligned address width) }
+    ensures room { result ≡ not (spec.is_in_way dcache.old (line_number address)) }
+    ensures after { dcache.new ≡ (if spec.is_in_way dcache.old (line_number address) then set_dropped dcache.old (own_set dcache.old (line_number address)) else stored (spec.with_line dcache.old (line_number address) reply.now) address width value) }
+{
+    if dcache.try_store(address, width, value) {
+        return true;
+    }
+    if bring(dcache, line_of(address), reply) {
+        dcache.store(address, width, value);
+        true
+    } else {
+        false
+    }
 }
 
 /// Notes a load or store of a line.
@@ -229,13 +267,11 @@ impl State {
         ensures part { IsPart self.old self.new }
         ensures turned { (b : BoardValue) (map : AddressMap) (book : Book) (past : List PastEvent) → Holds b map self.old book past → rules.breach b map (knowledge b book self.old.clock.number past) (accesses.Cached address false) width ≡ None → let c = core_now self.old past in IsTurned b map self.new result book (if spec.is_in_way c.data_slots (line_number address) then spec.emptied c (own_set c.data_slots (line_number address)) else spec.loads c self.old.clock.number c.front address width signed to (spec.with_line c.data_slots (line_number address) reply.now)) }
     {
-        let line = line_of(address);
-        if !bring(&mut self.dcache, line, reply) {
+        let Some(value) = load_line(&mut self.dcache, address, width, reply) else {
             return None;
-        }
-        let value = self.dcache.load(address, width);
+        };
         self.regs.put_loaded(to, extended(value, width, signed));
-        note_touch(&mut self.watch, layout, line, false);
+        note_touch(&mut self.watch, layout, line_of(address), false);
         self.retired()
     }
 
@@ -254,13 +290,11 @@ impl State {
         ensures part { IsPart self.old self.new }
         ensures turned { (b : BoardValue) (map : AddressMap) (book : Book) (past : List PastEvent) → Holds b map self.old book past → rules.breach b map (knowledge b book self.old.clock.number past) (accesses.Cached address true) width ≡ None → let c = core_now self.old past in IsTurned b map self.new result book (if spec.is_in_way c.data_slots (line_number address) then spec.emptied c (own_set c.data_slots (line_number address)) else spec.stores c self.old.clock.number c.front address width value (spec.with_line c.data_slots (line_number address) reply.now)) }
     {
-        let line = line_of(address);
-        if !bring(&mut self.dcache, line, reply) {
+        if !store_line(&mut self.dcache, address, width, value, reply) {
             return None;
         }
-        self.dcache.store(address, width, value);
         self.regs.advance();
-        note_touch(&mut self.watch, layout, line, true);
+        note_touch(&mut self.watch, layout, line_of(address), true);
         self.retired()
     }
 

@@ -1,6 +1,6 @@
 //! The turns of a core.
 
-ghost use Rattle.std.specs.Prelude.{◌≡◌, ℕ, ◌<◌, ◌+◌, ◌≤◌, List, length, None, Some, slice_get, is_some, IsTrue};
+ghost use Rattle.std.specs.Prelude.{◌≡◌, ℕ, ◌<◌, ◌+◌, ◌≤◌, ◌^◌, List, length, None, Some, slice_get, is_some, IsTrue};
 ghost use Rattle.n2_exec.specs.Outcomes.{IsProper};
 ghost use Rattle.n2_parts.specs.declared.board.Board.{Board as BoardValue};
 ghost use Rattle.n2_parts.specs.declared.board.CoreRow.{CoreRow as CoreRowValue};
@@ -14,10 +14,10 @@ ghost use Rattle.n2_front.specs.Tasks.{task_of, task_breach};
 ghost use Rattle.n2_front.specs.Core.{Core, stop_of, log_full};
 ghost use Rattle.n2_front.specs.Turn as spec;
 ghost use Rattle.n2_cpu.specs.Aims.{intent_of, IsFit, IsMeant};
-ghost use Rattle.n2_cpu.specs.Stands.{Holds, HasRoom, IsSound, IsTurned, IsPart, IsShared, IsMade, IsNext, StandsFor, core_now, counted, planned, IsStep};
+ghost use Rattle.n2_cpu.specs.Stands.{Holds, HasRoom, AreQuiet, IsQuiet, IsSound, IsTurned, IsPart, IsShared, IsMade, IsNext, StandsFor, core_now, settled, counted, planned, IsStep};
 
 use crate::aim::Aim;
-use crate::state::{State, aim};
+use crate::state::{State, aim, quiet_turns};
 use crate::wants::wants;
 use n2_board::{Act, Layout, Route, Stop};
 use n2_bus::{Reply, Request};
@@ -103,20 +103,40 @@ impl State {
         }
     }
 
+    /// Where no turn was left that was known to be quiet: stops a core that has made all its turns, and
+    /// counts the quiet turns from the next on.
+    #[cold]
+    fn settle(&mut self)
+        requires { 0 < self.old.clock.sample }
+        ensures settled { self.new ≡ settled self.old self.new.clock.quiet }
+        ensures quiet { AreQuiet self.old.clock.sample self.old.clock.evict self.old.clock.turns self.new.clock.quiet }
+        ensures end { self.new.stop ≡ None → self.new.clock.quiet + self.old.clock.turns < self.old.clock.limit }
+    {
+        self.clock.quiet = quiet_turns(&self.clock);
+        if self.stop.is_none() && self.clock.turns >= self.clock.limit {
+            self.stop = Some(Stop::Spent);
+        }
+    }
+
     /// Counts a turn.
     #[inline(always)]
     fn count(&mut self, transfer: bool)
-        requires turns { self.old.clock.turns < self.old.clock.limit }
+        requires quiet { IsQuiet self.old.clock }
+        requires left { self.old.clock.quiet + self.old.clock.turns < self.old.clock.limit }
         requires local { self.old.clock.local ≤ self.old.clock.turns }
-        ensures { self.new ≡ counted self.old transfer }
+        requires fits { self.old.clock.limit < 2 ^ 64 }
+        ensures counted { self.new ≡ counted self.old transfer self.new.clock.quiet }
+        ensures quiet { IsQuiet self.new.clock }
+        ensures end { self.new.stop ≡ None → self.new.clock.quiet + self.new.clock.turns < self.new.clock.limit }
     {
-        let limit = self.clock.limit;
         let turns = self.clock.turns + 1;
         self.clock.turns = turns;
         self.clock.local = if transfer { 0 } else { self.clock.local + 1 };
-        if self.stop.is_none() && turns >= limit {
-            self.stop = Some(Stop::Spent);
+        if self.clock.quiet > 0 {
+            self.clock.quiet -= 1;
+            return;
         }
+        self.settle();
     }
 
     /// Makes a turn with what the bus replied.
@@ -211,6 +231,7 @@ impl State {
     {
         self.clock.turns += 1;
         self.clock.local += 1;
+        self.clock.quiet = 0;
         self.stop = Some(Stop::LogFull);
     }
 }

@@ -20,14 +20,11 @@ fn back(dcache: &DCache, set: u32) -> Option<Request>
     requires { set < length dcache.now }
     ensures { result ≡ spec.back (slot_at dcache.now set) }
 {
+    if !dcache.is_dirty(set) {
+        return None;
+    }
     match dcache.held(set) {
-        Some(held) => {
-            if held.dirty {
-                Some(Request::WriteBack(held.line, held.words))
-            } else {
-                None
-            }
-        }
+        Some(held) => Some(Request::WriteBack(held.line, held.words)),
         None => None,
     }
 }

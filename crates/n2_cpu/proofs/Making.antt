@@ -31,7 +31,7 @@ same_wants slots f g r (aims.Evict set) = refl
 same_wants slots f g r aims.Interrupt = refl
 same_wants slots f g r (aims.Stop stop) = refl
 same_wants slots f g r (aims.FillCode number) = refl
-same_wants slots f g r (aims.Do what) = refl
+same_wants slots f g r (aims.Do what at) = refl
 
 same_meaning : (b : Board) (map : AddressMap) (k : ℕ) (book : Book) (past : List Past) (f g : Front) (r : Regs) (a : Aim) → IsMeant b map k book past (intent_of f r a) → IsMeant b map k book past (intent_of g r a)
 same_meaning b map k book past f g r aims.Sample m = m
@@ -39,7 +39,7 @@ same_meaning b map k book past f g r (aims.Evict set) m = m
 same_meaning b map k book past f g r aims.Interrupt m = m
 same_meaning b map k book past f g r (aims.Stop stop) m = m
 same_meaning b map k book past f g r (aims.FillCode number) m = m
-same_meaning b map k book past f g r (aims.Do what) m = m
+same_meaning b map k book past f g r (aims.Do what at) m = m
 
 module _ (b : Board) (map : AddressMap) (s : State) (w : World) (r : Regs) (a : Aim) (new : State) (act : Option Act) (transfer : Bool) (reply : Reply) (c : Core) where
   abbrev changed : Core

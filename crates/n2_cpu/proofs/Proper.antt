@@ -128,7 +128,7 @@ module _ (b : Board) (map : AddressMap) (k : ℕ) (lt : k < length b.core) (m : 
     aim_proper sets f r aims.Interrupt fit meant = nothing
     aim_proper sets f r (aims.Stop stop) fit meant = nothing
     aim_proper sets f r (aims.FillCode number) fit meant = something (FillCode number) (fills_pass b k number lt meant.0).1
-    aim_proper sets f r (aims.Do what) fit meant = asked_proper what fit.0 meant
+    aim_proper sets f r (aims.Do what at) fit meant = asked_proper what fit.0 meant
 
 -- by the value's aim
 module _ (b : Board) (map : AddressMap) (row : CoreRow) (s : State) (c : Core) (w : World) (r : Regs) (a : Aim) where

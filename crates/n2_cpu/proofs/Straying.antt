@@ -1,37 +1,39 @@
 -- Where an access strays, and how a judgement stops a core.
-use Rattle.std.proofs.Common.{◌≡◌, ℕ, ◌/◌, ◌%◌, ◌^◌, Bool, true, false, nat_lt, ◌==◌, ◌&&◌, if◌then◌else◌, Option, Some, None, Result, Ok, Err, option_map, slice_get, refl, ap, sym, ◌∙◌}
+use Rattle.std.proofs.Common.{◌≡◌, ℕ, ◌/◌, ◌%◌, ◌^◌, Bool, true, false, nat_lt, ◌==◌, ◌&&◌, if◌then◌else◌, List, Option, Some, None, Result, Ok, Err, option_map, slice_get, refl, ap, sym, subst, ◌∙◌}
 use Rattle.n2_word.specs.declared.Width.{Width}
-use Rattle.n2_word.specs.declared.Width.TheVariants.{Word}
-use Rattle.n2_word.specs.Lines.{line, bypasses}
+use Rattle.n2_word.specs.Lines.{line}
 use Rattle.n2_insn.specs.declared.DataOp.{DataOp}
 use Rattle.n2_insn.specs.declared.DataOp.TheVariants.{Initd, Initda, Flushd, Flushda}
 use Rattle.n2_exec.specs.declared.Asked.{Asked}
-use Rattle.n2_exec.specs.declared.Asked.TheVariants as asked
 use Rattle.n2_parts.specs.declared.board.Board.{Board}
 use Rattle.n2_parts.specs.declared.board.MailboxRow.{MailboxRow}
 use Rattle.n2_parts.specs.declared.board.PartKind.{PartKind}
 use Rattle.n2_parts.specs.declared.board.PartKind.TheVariants as kinds
 use Rattle.n2_parts.specs.declared.stops.Stop.{Stop}
+use Rattle.n2_parts.specs.declared.stops.Stop.TheVariants as stops
 use Rattle.n2_parts.specs.declared.stops.Kind.TheVariants.{Flush, Lock}
 use Rattle.n2_board.specs.declared.access.Target.{Target}
 use Rattle.n2_board.specs.declared.access.Target.TheVariants as targets
 use Rattle.n2_board.specs.declared.access.Violation.{Violation}
 use Rattle.n2_board.specs.declared.access.Violation.TheVariants.{Stray, Separate}
 use Rattle.n2_board.specs.declared.access.Route.TheVariants as routes
-use Rattle.n2_board.specs.declared.guards.Guard.{Guard}
 use Rattle.n2_board.specs.declared.guards.Guard.TheVariants as guard_kinds
 use Rattle.n2_board.specs.AddressMap.{AddressMap, class_of}
-use Rattle.n2_board.specs.Access.{data_target, fetch_violation}
-use Rattle.n2_board.specs.Guards.{guard_of, passed_region}
+use Rattle.n2_board.specs.Access.{data_target}
+use Rattle.n2_board.specs.Guards.{passed_region}
 use Rattle.n2_watch.specs.declared.access.Access.{Access}
-use Rattle.n2_watch.specs.declared.access.Access.TheVariants.{Cached, Bypass, Fetch, Op}
+use Rattle.n2_watch.specs.declared.access.Access.TheVariants.{Cached, Bypass, Op}
 use Rattle.n2_watch.specs.declared.access.Broken.{Broken}
-use Rattle.n2_watch.specs.Past.{stale, lowest, dirty, guards}
-use Rattle.n2_watch.specs.Discipline.{Knowledge, Breach, Strays, Breaks, line_breach, cached_breach, bypass_breach, op_breach, mutex_breach, post_breach, mailbox_breach, device_breach, lists, is_post, direction, violation, breach}
-use Rattle.n2_watch.specs.Watched.{broken_at, address_of}
+use Rattle.n2_watch.specs.declared.access.Judged.{Judged}
+use Rattle.n2_watch.specs.declared.access.Judged.TheVariants as judgements
+use Rattle.n2_watch.specs.declared.past.Past.{Past}
+use Rattle.n2_watch.specs.Judged.{breach_of, IsRefusedAt}
+use Rattle.n2_watch.specs.Book.{Book, knowledge}
+use Rattle.n2_watch.specs.Past.{lowest, dirty, guards}
+use Rattle.n2_watch.specs.Discipline.{Knowledge, Breach, Strays, Breaks, bypass_breach, op_breach, mutex_breach, post_breach, mailbox_breach, device_breach, lists, is_post, direction, breach}
+use Rattle.n2_watch.specs.Watched.{Watched, StandsFor, broken_at}
 use Rattle.n2_front.specs.Tasks.{Task, task_of, task_breach, task_address, stop_for}
-use Rattle.n2_front.specs.Tasks as tasks
-use Rattle.n2_cpu.specs.Judged.{is_stray, is_cut, load_access, store_access}
+use Rattle.n2_cpu.specs.Judged.{is_stray, is_cut}
 
 -- ---- no other rule strays
 either : (t : Bool) (x y : Option Breach) → is_stray x ≡ false → is_stray y ≡ false → is_stray (if t then x else y) ≡ false
@@ -41,10 +43,6 @@ either false x y e f = f
 flushes : (o : Option ℕ) → is_stray (option_map (λ number. Breaks Flush number) o) ≡ false
 flushes None = refl
 flushes (Some number) = refl
-
-line_not : (map : AddressMap) (who : Knowledge) (g : Option Guard) (number : ℕ) → is_stray (line_breach map who g number) ≡ false
-line_not map who None number = either (stale map who.sets who.past number) _ _ refl refl
-line_not map who (Some guard) number = either (who.owns guard) _ _ (either (stale map who.sets who.past number) _ _ refl refl) refl
 
 both : (s t : Bool) (o : Option ℕ) (number : ℕ) → is_stray (if s then (if t then option_map (λ dirtied. Breaks Flush dirtied) o else None) else Some (Breaks Lock number)) ≡ false
 both s t o number = either s _ (Some (Breaks Lock number)) (either t _ None (flushes o) refl) refl
@@ -69,11 +67,6 @@ device_not b map who kinds.Mutex index offset store value number = either (offse
 device_not b map who kinds.Mailbox index offset store value number = mailbox_not b map who index (slice_get b.mailbox index) offset store number
 device_not b map who _ index offset store value number = refl
 
-cached_cut : (map : AddressMap) (who : Knowledge) (r : Result Target Violation) (number : ℕ) → is_cut r ≡ is_stray (cached_breach map who r number)
-cached_cut map who (Ok target) number = sym (line_not map who (guard_of (class_of map number)) number)
-cached_cut map who (Err Stray) number = refl
-cached_cut map who (Err Separate) number = refl
-
 bypass_cut : (b : Board) (map : AddressMap) (who : Knowledge) (r : Result Target Violation) (store : Bool) (value number : ℕ) → is_cut r ≡ is_stray (bypass_breach b map who r store value number)
 bypass_cut b map who (Ok targets.Memory) store value number = refl
 bypass_cut b map who (Ok (targets.Device part offset)) store value number = sym (device_not b map who part.kind part.index offset store value number)
@@ -88,17 +81,9 @@ op_not who Flushda address = refl
 
 -- ---- by the access
 module _ (b : Board) (map : AddressMap) (who : Knowledge) (access : Access) (width : Width) (core : ℕ) (same : who.core ≡ core) (r : Bool) where
-  pub cached_strays : (address : ℕ) (store : Bool) → access ≡ Cached address store → r ≡ is_cut (data_target map core address width routes.Cached (direction store)) → r ≡ is_stray (breach b map who access width)
-  unfolding breach
-  cached_strays address store e h = rw e (h ∙ ap (λ (k : ℕ). is_cut (data_target map k address width routes.Cached (direction store))) (sym same) ∙ cached_cut map who (data_target map who.core address width routes.Cached (direction store)) (line address))
-
   pub bypass_strays : (address : ℕ) (store : Bool) (value : ℕ) → access ≡ Bypass address store value → r ≡ is_cut (data_target map core address width routes.Bypassing (direction store)) → r ≡ is_stray (breach b map who access width)
   unfolding breach
   bypass_strays address store value e h = rw e (h ∙ ap (λ (k : ℕ). is_cut (data_target map k address width routes.Bypassing (direction store))) (sym same) ∙ bypass_cut b map who (data_target map who.core address width routes.Bypassing (direction store)) store value (line address))
-
-  pub fetch_strays : (address : ℕ) (o : Option Violation) → access ≡ Fetch address → o ≡ fetch_violation map address → r ≡ is_stray (option_map (λ wrong. violation wrong (line address)) o) → r ≡ is_stray (breach b map who access width)
-  unfolding breach
-  fetch_strays address o e f h = rw e (h ∙ ap (λ (x : Option Violation). is_stray (option_map (λ wrong. violation wrong (line address)) x)) f)
 
   pub op_strays : (op : DataOp) (address : ℕ) → access ≡ Op op address → r ≡ false → r ≡ is_stray (breach b map who access width)
   unfolding breach
@@ -119,27 +104,35 @@ refused_as pc word address o x r e n h = e ∙ ap (λ (y : Option Broken). refus
 pub not_stray : (x : Option Breach) → false ≡ is_stray x → x ≡ Some Strays → ⊥
 not_stray x e h = let z : ◌≡◌ {A = Bool} false true = e ∙ ap (λ (y : Option Breach). is_stray y) h in absurd (cc)
 
+-- an access that strays stops the core as that
+pub stray_stops : (x : Option Breach) (pc word address given : ℕ) → true ≡ is_stray x → address ≡ given → Some (stops.Stray address) ≡ option_map (λ why. stop_for why pc word given) x
+stray_stops None pc word address given h e = absurd (cc)
+stray_stops (Some Strays) pc word address given h e = ap (λ (n : ℕ). Some (stops.Stray n)) e
+stray_stops (Some (Breaks kind number)) pc word address given h e = absurd (cc)
+
+-- ---- the stop for what is said of a load or store through the cache
+abbrev pub touch_stop : ℕ → ℕ → ℕ → Judged → Option Stop
+touch_stop pc word address (judgements.Passed at) = None
+touch_stop pc word address (judgements.Refused broken) = Some (stop_for (Breaks broken.kind broken.line) pc word broken.address)
+touch_stop pc word address judgements.Stray = Some (stops.Stray address)
+
+touch_said : (pc word address : ℕ) (j : Judged) → IsRefusedAt address j → touch_stop pc word address j ≡ option_map (λ why. stop_for why pc word address) (breach_of j)
+touch_said pc word address (judgements.Passed at) r = refl
+touch_said pc word address (judgements.Refused broken) r = ap (λ (n : ℕ). Some (stop_for (Breaks broken.kind broken.line) pc word n)) r
+touch_said pc word address judgements.Stray r = refl
+
+module _ (b : Board) (map : AddressMap) (watch : Watched) (book : Book) (core : ℕ) (past : List Past) (address : ℕ) (store : Bool) (width : Width) where
+  abbrev breach_at : ℕ → Option Breach
+  breach_at k = breach b map (knowledge b book k past) (Cached address store) width
+
+  pub touch_stops : (pc word : ℕ) (j : Judged) → IsRefusedAt address j → (StandsFor b map watch.core watch book past → breach_of j ≡ breach_at watch.core) → StandsFor b map core watch book past → touch_stop pc word address j ≡ option_map (λ why. stop_for why pc word address) (breach_at core)
+  touch_stops pc word j r judged h =
+      subst (λ (k : ℕ). StandsFor b map k watch book past → touch_stop pc word address j ≡ option_map (λ why. stop_for why pc word address) (breach_at k))
+      h.core_is (λ g. touch_said pc word address j r ∙ ap (λ (x : Option Breach). option_map (λ why. stop_for why pc word address) x) (judged g)) h
+
 -- ---- what an instruction leaves to do
 abbrev stops_at : Board → AddressMap → Knowledge → ℕ → ℕ → Task → Option Stop
 stops_at b map who pc word task = option_map (λ why. stop_for why pc word (task_address task)) (task_breach b map who task)
 
-abbrev access_stops_at : Board → AddressMap → Knowledge → ℕ → ℕ → Access → Width → Option Stop
-access_stops_at b map who pc word access width = option_map (λ why. stop_for why pc word (address_of access)) (breach b map who access width)
-
-module _ (b : Board) (map : AddressMap) (who : Knowledge) (pc word : ℕ) where
-  load_by : (past : Bool) (address : ℕ) (width : Width) (signed : Bool) (to : ℕ) → access_stops_at b map who pc word (if past then Bypass address false 0 else Cached address false) width ≡ stops_at b map who pc word (if past then tasks.LoadPast address width signed to else tasks.Load address width signed to)
-  load_by true address width signed to = refl
-  load_by false address width signed to = refl
-
-  store_by : (past : Bool) (address : ℕ) (width : Width) (value : ℕ) → access_stops_at b map who pc word (if past then Bypass address true value else Cached address true) width ≡ stops_at b map who pc word (if past then tasks.StorePast address width value else tasks.Store address width value)
-  store_by true address width value = refl
-  store_by false address width value = refl
-
-  pub load_judged : (what : Asked) (access : Access) (address : ℕ) (width : Width) (signed io : Bool) (to : ℕ) (r : Option Stop) → what ≡ asked.Load address width signed io to → access ≡ load_access address io → r ≡ access_stops_at b map who pc word access width → r ≡ stops_at b map who pc word (task_of what)
-  load_judged what access address width signed io to r e f h = rw e (h ∙ ap (λ (a : Access). access_stops_at b map who pc word a width) f ∙ load_by (bypasses address io) address width signed to)
-
-  pub store_judged : (what : Asked) (access : Access) (address : ℕ) (width : Width) (value : ℕ) (io : Bool) (r : Option Stop) → what ≡ asked.Store address width value io → access ≡ store_access address io value → r ≡ access_stops_at b map who pc word access width → r ≡ stops_at b map who pc word (task_of what)
-  store_judged what access address width value io r e f h = rw e (h ∙ ap (λ (a : Access). access_stops_at b map who pc word a width) f ∙ store_by (bypasses address io) address width value)
-
-  pub op_judged : (what : Asked) (op : DataOp) (address : ℕ) (r : Option Stop) → what ≡ asked.LineOp op address → r ≡ access_stops_at b map who pc word (Op op address) Word → r ≡ stops_at b map who pc word (task_of what)
-  op_judged what op address r e h = rw e h
+pub asked_stops : (b : Board) (map : AddressMap) (who : Knowledge) (pc word : ℕ) (what : Asked) (task : Task) (r : Option Stop) → task_of what ≡ task → r ≡ stops_at b map who pc word task → r ≡ stops_at b map who pc word (task_of what)
+asked_stops b map who pc word what task r e h = subst (λ (t : Task). r ≡ stops_at b map who pc word t) (sym e) h

@@ -64,13 +64,13 @@ module _ (b : Board) (map : AddressMap) (k : ℕ) (w : World) (past : List Past)
   same_answer aims.Interrupt e = unchanged aims.Interrupt e
   same_answer (aims.Stop stop) e = unchanged (aims.Stop stop) e
   same_answer (aims.FillCode number) e = unchanged (aims.FillCode number) e
-  same_answer (aims.Do asked.Done) e = refl
-  same_answer (aims.Do (asked.Load address width signed io to)) e = unchanged (aims.Do (asked.Load address width signed io to)) e
-  same_answer (aims.Do (asked.Store address width value io)) e = unchanged (aims.Do (asked.Store address width value io)) e
-  same_answer (aims.Do (asked.LineOp op address)) e = unchanged (aims.Do (asked.LineOp op address)) e
-  same_answer (aims.Do (asked.CodeOp address)) e = unchanged (aims.Do (asked.CodeOp address)) e
-  same_answer (aims.Do (asked.Raise cause)) e = unchanged (aims.Do (asked.Raise cause)) e
-  same_answer (aims.Do asked.Broke) e = unchanged (aims.Do asked.Broke) e
+  same_answer (aims.Do asked.Done at) e = refl
+  same_answer (aims.Do (asked.Load address width signed io to) at) e = unchanged (aims.Do (asked.Load address width signed io to) at) e
+  same_answer (aims.Do (asked.Store address width value io) at) e = unchanged (aims.Do (asked.Store address width value io) at) e
+  same_answer (aims.Do (asked.LineOp op address) at) e = unchanged (aims.Do (asked.LineOp op address) at) e
+  same_answer (aims.Do (asked.CodeOp address) at) e = unchanged (aims.Do (asked.CodeOp address) at) e
+  same_answer (aims.Do (asked.Raise cause) at) e = unchanged (aims.Do (asked.Raise cause) at) e
+  same_answer (aims.Do asked.Broke at) e = unchanged (aims.Do asked.Broke at) e
 
 -- ---- what is counted
 by_limit : (t : Bool) → (if t then None else Some stops.Spent) ≡ ended_stop (if t then None else Some Spent)

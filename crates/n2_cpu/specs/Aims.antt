@@ -35,7 +35,7 @@ intent_of f regs (aims.Evict set) = Evicts set
 intent_of f regs aims.Interrupt = Interrupts
 intent_of f regs (aims.Stop stop) = Stops stop
 intent_of f regs (aims.FillCode number) = FillsCode number
-intent_of f regs (aims.Do what) = Does (with_regs f regs) (task_of what)
+intent_of f regs (aims.Do what at) = Does (with_regs f regs) (task_of what)
 
 -- a set is one of the cache, and what an instruction asks for is aligned
 abbrev pub IsFit : ℕ → Aim → Type 0
@@ -44,7 +44,7 @@ IsFit sets (aims.Evict set) = set < sets
 IsFit sets aims.Interrupt = Unit {0}
 IsFit sets (aims.Stop stop) = Unit {0}
 IsFit sets (aims.FillCode number) = Unit {0}
-IsFit sets (aims.Do what) = IsProper what × HasAddress what
+IsFit sets (aims.Do what at) = IsProper what × HasAddress what
 
 -- registers change only where nothing is left to do
 abbrev pub AskedKeeps : Asked → Regs → Regs → Type 0
@@ -52,7 +52,7 @@ AskedKeeps asked.Done old new = Unit {0}
 AskedKeeps _ old new = new ≡ old
 
 abbrev pub Keeps : Aim → Regs → Regs → Type 0
-Keeps (aims.Do what) old new = AskedKeeps what old new
+Keeps (aims.Do what at) old new = AskedKeeps what old new
 Keeps _ old new = new ≡ old
 
 -- ---- what a core keeps of the lines that it holds: each is in a memory of the board, and code lines have class Code

@@ -21,7 +21,8 @@ use n2_word::line_of;
 
 /// What the next turn of a core is about: it latches its interrupt lines; it empties a set of its
 /// data cache; it takes an interrupt; it stops, since a fetch or a task breaks the discipline; it
-/// fills a code line; it does what an instruction left to do.
+/// fills a code line; it does what an instruction left to do, with the place where the watch looks
+/// first for the record of the line that it loads or stores.
 #[derive(Clone, Copy, Debug, PartialEq, Eq)]
 pub enum Aim {
     Sample,
@@ -29,7 +30,7 @@ pub enum Aim {
     Interrupt,
     Stop(Stop),
     FillCode(u32),
-    Do(Asked),
+    Do(Asked, usize),
 }
 
 /// What an instruction's word is about, with the registers as it leaves them.
@@ -41,8 +42,8 @@ fn execute(regs: &mut Regs, word: u32, watch: &Watch, core: u32, layout: &Layout
 {
     let asked = act_word(regs, word);
     match judge_asked(watch, layout, core, &asked, regs.pc, word) {
-        Some(stop) => Aim::Stop(stop),
-        None => Aim::Do(asked),
+        Ok(place) => Aim::Do(asked, place),
+        Err(stop) => Aim::Stop(stop),
     }
 }
 

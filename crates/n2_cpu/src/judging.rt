@@ -10,11 +10,11 @@ ghost use Rattle.n2_watch.specs.Book.{Book, knowledge};
 ghost use Rattle.n2_watch.specs.Discipline as rules;
 ghost use Rattle.n2_watch.specs.Watched.{StandsFor, address_of};
 ghost use Rattle.n2_front.specs.Tasks.{task_of, task_breach, task_address, stop_for};
-ghost use Rattle.n2_cpu.specs.Judged.{is_stray, is_cut, load_access, store_access};
+ghost use Rattle.n2_cpu.specs.Judged.{is_stray, is_cut, stop_in};
 
 use n2_board::{Direction, Kind, Layout, Refusal, Route, Stop, Violation};
 use n2_exec::Asked;
-use n2_watch::{Access, Broken, Watch};
+use n2_watch::{Access, Broken, Judged, Watch};
 use n2_word::{Width, line_of};
 
 /// The stop for a refusal, at the program counter and with the instruction's word.
@@ -60,27 +60,6 @@ fn cut_off(
     }
 }
 
-/// Whether an access of a core strays.
-#[inline(always)]
-fn strays(layout: &Layout, core: u32, access: &Access, width: Width) -> bool
-    ensures { (b : BoardValue) (who : rules.Knowledge) → who.core ≡ core → result ≡ is_stray (rules.breach b layout.now who access.now width) }
-{
-    match access {
-        Access::Cached { address, store } => {
-            cut_off(layout, core, *address, width, Route::Cached, *store)
-        }
-        Access::Bypass { address, store, .. } => {
-            cut_off(layout, core, *address, width, Route::Bypassing, *store)
-        }
-        Access::Fetch { address } => match layout.fetch_violation(*address) {
-            Some(Violation::Stray) => true,
-            Some(Violation::Separate) => false,
-            None => false,
-        },
-        Access::Op { .. } => false,
-    }
-}
-
 /// The refusal of an access that does not stray.
 fn refusal(watch: &Watch, layout: &Layout, access: &Access, pc: u32, word: u32) -> Option<Stop>
     ensures { (b : BoardValue) (book : Book) (past : List PastEvent) (width : WidthValue) → StandsFor b layout.now watch.now.core watch.now book past → rules.breach b layout.now (knowledge b book watch.now.core past) access.now width ≢ Some rules.Strays → result ≡ option_map (λ why. stop_for why pc word (address_of access.now)) (rules.breach b layout.now (knowledge b book watch.now.core past) access.now width) }
@@ -91,77 +70,75 @@ fn refusal(watch: &Watch, layout: &Layout, access: &Access, pc: u32, word: u32) 
     }
 }
 
-/// The address that an access gives.
+/// How a load or store through the cache stops the core, if it breaks the discipline; else the place
+/// where its note looks for the record of its line first.
 #[inline(always)]
-fn address_given(access: &Access) -> u32
-    ensures { result ≡ address_of access.now }
+fn judge_cached(
+    watch: &Watch,
+    layout: &Layout,
+    address: u32,
+    width: Width,
+    store: bool,
+    pc: u32,
+    word: u32,
+) -> Result<usize, Stop>
+    ensures { (b : BoardValue) (book : Book) (core : ℕ) (past : List PastEvent) → StandsFor b layout.now core watch.now book past → stop_in result ≡ option_map (λ why. stop_for why pc word address) (rules.breach b layout.now (knowledge b book core past) (accesses.Cached address store) width) }
 {
-    match access {
-        Access::Cached { address, .. } => *address,
-        Access::Bypass { address, .. } => *address,
-        Access::Fetch { address } => *address,
-        Access::Op { address, .. } => *address,
+    match watch.judge_cached(layout, address, width, store) {
+        Judged::Passed(place) => Ok(place),
+        Judged::Refused(broken) => Err(refused(broken, pc, word)),
+        Judged::Stray => Err(Stop::Stray(address)),
     }
 }
 
-/// How an access of a core stops it, if it breaks the discipline.
-#[inline(always)]
+/// How an access that does not go through the cache stops the core, if it breaks the discipline.
+/// `strays` says whether it does.
 fn judge(
     watch: &Watch,
     layout: &Layout,
-    core: u32,
     access: &Access,
-    width: Width,
+    strays: bool,
+    address: u32,
     pc: u32,
     word: u32,
-) -> Option<Stop>
-    ensures { (b : BoardValue) (book : Book) (past : List PastEvent) → StandsFor b layout.now core watch.now book past → result ≡ option_map (λ why. stop_for why pc word (address_of access.now)) (rules.breach b layout.now (knowledge b book core past) access.now width) }
+) -> Result<usize, Stop>
+    requires { address ≡ address_of access.now }
+    ensures { (b : BoardValue) (book : Book) (core : ℕ) (past : List PastEvent) (width : WidthValue) → StandsFor b layout.now core watch.now book past → strays ≡ is_stray (rules.breach b layout.now (knowledge b book core past) access.now width) → stop_in result ≡ option_map (λ why. stop_for why pc word (address_of access.now)) (rules.breach b layout.now (knowledge b book core past) access.now width) }
 {
-    if strays(layout, core, access, width) {
-        return Some(Stop::Stray(address_given(access)));
+    if strays {
+        return Err(Stop::Stray(address));
     }
-    refusal(watch, layout, access, pc, word)
-}
-
-/// The access of a load.
-#[inline(always)]
-fn load_access(address: u32, io: bool) -> Access
-    ensures { result ≡ load_access address io }
-{
-    if io || address >= 0x8000_0000 {
-        Access::Bypass {
-            address,
-            store: false,
-            value: 0,
-        }
-    } else {
-        Access::Cached {
-            address,
-            store: false,
-        }
+    match refusal(watch, layout, access, pc, word) {
+        Some(stop) => Err(stop),
+        None => Ok(0),
     }
 }
 
-/// The access of a store.
-#[inline(always)]
-fn store_access(address: u32, io: bool, value: u32) -> Access
-    ensures { result ≡ store_access address io value }
+/// How a load or store past the cache stops the core, if it breaks the discipline.
+fn judge_past(
+    watch: &Watch,
+    layout: &Layout,
+    core: u32,
+    address: u32,
+    width: Width,
+    store: bool,
+    value: u32,
+    pc: u32,
+    word: u32,
+) -> Result<usize, Stop>
+    ensures { (b : BoardValue) (book : Book) (past : List PastEvent) → StandsFor b layout.now core watch.now book past → stop_in result ≡ option_map (λ why. stop_for why pc word address) (rules.breach b layout.now (knowledge b book core past) (accesses.Bypass address store value) width) }
 {
-    if io || address >= 0x8000_0000 {
-        Access::Bypass {
-            address,
-            store: true,
-            value,
-        }
-    } else {
-        Access::Cached {
-            address,
-            store: true,
-        }
-    }
+    let strays = cut_off(layout, core, address, width, Route::Bypassing, store);
+    let access = Access::Bypass {
+        address,
+        store,
+        value,
+    };
+    judge(watch, layout, &access, strays, address, pc, word)
 }
 
-/// How what an instruction leaves to do stops the core, if it breaks the discipline.
+/// How what an instruction leaves to do stops the core, if it breaks the discipline; else the place
+/// where a load or store through the cache looks for the record of its line first.
 #[inline(always)]
 pub fn judge_asked(
     watch: &Watch,
@@ -170,9 +147,9 @@ pub fn judge_asked(
     asked: &Asked,
     pc: u32,
     word: u32,
-) -> Option<Stop>
-    ensures done { asked.now ≡ Asked.Done → result ≡ None }
-    ensures judged { (b : BoardValue) (book : Book) (past : List PastEvent) → StandsFor b layout.now core watch.now book past → result ≡ option_map (λ why. stop_for why pc word (task_address (task_of asked.now))) (task_breach b layout.now (knowledge b book core past) (task_of asked.now)) }
+) -> Result<usize, Stop>
+    ensures done { asked.now ≡ Asked.Done → stop_in result ≡ None }
+    ensures judged { (b : BoardValue) (book : Book) (past : List PastEvent) → StandsFor b layout.now core watch.now book past → stop_in result ≡ option_map (λ why. stop_for why pc word (task_address (task_of asked.now))) (task_breach b layout.now (knowledge b book core past) (task_of asked.now)) }
 {
     match asked {
         Asked::Load {
@@ -180,45 +157,36 @@ pub fn judge_asked(
             width,
             io,
             ..
-        } => judge(
-            watch,
-            layout,
-            core,
-            &load_access(*address, *io),
-            *width,
-            pc,
-            word,
-        ),
+        } => match Route::of(*address, *io) {
+            Route::Cached => judge_cached(watch, layout, *address, *width, false, pc, word),
+            Route::Bypassing => {
+                judge_past(watch, layout, core, *address, *width, false, 0, pc, word)
+            }
+        },
         Asked::Store {
             address,
             width,
             value,
             io,
-        } => judge(
-            watch,
-            layout,
-            core,
-            &store_access(*address, *io, *value),
-            *width,
-            pc,
-            word,
-        ),
-        Asked::LineOp { op, address } => judge(
-            watch,
-            layout,
-            core,
-            &Access::Op {
+        } => match Route::of(*address, *io) {
+            Route::Cached => judge_cached(watch, layout, *address, *width, true, pc, word),
+            Route::Bypassing => {
+                judge_past(
+                    watch, layout, core, *address, *width, true, *value, pc, word,
+                )
+            }
+        },
+        Asked::LineOp { op, address } => {
+            let access = Access::Op {
                 op: *op,
                 address: *address,
-            },
-            Width::Word,
-            pc,
-            word,
-        ),
-        Asked::Done => None,
-        Asked::CodeOp { .. } => None,
-        Asked::Raise(_) => None,
-        Asked::Broke => None,
+            };
+            judge(watch, layout, &access, false, *address, pc, word)
+        }
+        Asked::Done => Ok(0),
+        Asked::CodeOp { .. } => Ok(0),
+        Asked::Raise(_) => Ok(0),
+        Asked::Broke => Ok(0),
     }
 }
 

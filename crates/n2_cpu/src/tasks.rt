@@ -93,14 +93,14 @@ fn store_line(dcache: &mut DCache, address: u32, width: Width, value: u32, reply
     }
 }
 
-/// Notes a load or store of a line.
+/// Notes a load or store of a line, whose record is looked for at a place first.
 #[inline(always)]
-fn note_touch(watch: &mut Watch, layout: &Layout, line: u32, store: bool)
+fn note_touch(watch: &mut Watch, place: usize, line: u32, store: bool)
     requires { HasRoom watch.old }
     ensures once { IsNotedOnce watch.old watch.new }
     ensures stands { (b : BoardValue) (map : AddressMap) (core : ℕ) (book : Book) (past : List PastEvent) (address : ℕ) (width : WidthValue) → StandsFor b map core watch.old book past → line ≡ line_number address → rules.breach b map (knowledge b book core past) (accesses.Cached address store) width ≡ None → StandsFor b map core watch.new book (Touch line store ∷ past) }
 {
-    watch.note(layout, &Done::Touched { line, store });
+    watch.note_touched_at(place, line, store);
 }
 
 /// Notes an operation on the data cache.
@@ -254,7 +254,7 @@ impl State {
     #[inline(always)]
     pub fn load(
         &mut self,
-        layout: &Layout,
+        place: usize,
         address: u32,
         width: Width,
         signed: bool,
@@ -271,7 +271,7 @@ impl State {
             return None;
         };
         self.regs.put_loaded(to, extended(value, width, signed));
-        note_touch(&mut self.watch, layout, line_of(address), false);
+        note_touch(&mut self.watch, place, line_of(address), false);
         self.retired()
     }
 
@@ -279,7 +279,7 @@ impl State {
     #[inline(always)]
     pub fn store(
         &mut self,
-        layout: &Layout,
+        place: usize,
         address: u32,
         width: Width,
         value: u32,
@@ -294,7 +294,7 @@ impl State {
             return None;
         }
         self.regs.advance();
-        note_touch(&mut self.watch, layout, line_of(address), true);
+        note_touch(&mut self.watch, place, line_of(address), true);
         self.retired()
     }
 

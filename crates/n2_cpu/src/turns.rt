@@ -51,7 +51,13 @@ const NOTHING: Reply = Reply {
 impl State {
     /// Does what an instruction left to do.
     #[inline(always)]
-    fn do_asked(&mut self, layout: &Layout, asked: Asked, reply: &Reply) -> Option<Act>
+    fn do_asked(
+        &mut self,
+        layout: &Layout,
+        asked: Asked,
+        place: usize,
+        reply: &Reply,
+    ) -> Option<Act>
         requires room { HasRoom self.old.watch }
         requires proper { IsProper asked }
         ensures part { IsPart self.old self.new }
@@ -71,7 +77,7 @@ impl State {
                 to,
             } => match Route::of(address, io) {
                 Route::Bypassing => self.load_past(layout, address, width, signed, to, reply),
-                Route::Cached => self.load(layout, address, width, signed, to, reply),
+                Route::Cached => self.load(place, address, width, signed, to, reply),
             },
             Asked::Store {
                 address,
@@ -80,7 +86,7 @@ impl State {
                 io,
             } => match Route::of(address, io) {
                 Route::Bypassing => self.store_past(layout, address, width, value, reply),
-                Route::Cached => self.store(layout, address, width, value, reply),
+                Route::Cached => self.store(place, address, width, value, reply),
             },
         }
     }
@@ -99,7 +105,7 @@ impl State {
             Aim::Interrupt => self.interrupt(),
             Aim::Stop(stop) => self.halt(stop),
             Aim::FillCode(line) => self.fill_code(line, reply),
-            Aim::Do(asked) => self.do_asked(layout, asked, reply),
+            Aim::Do(asked, place) => self.do_asked(layout, asked, place, reply),
         }
     }
 

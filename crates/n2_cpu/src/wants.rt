@@ -113,6 +113,6 @@ pub fn wants(dcache: &DCache, aim: &Aim) -> Option<Request>
         Aim::Interrupt => None,
         Aim::Stop(_) => None,
         Aim::FillCode(line) => Some(Request::FillCode(*line)),
-        Aim::Do(asked) => wants_asked(dcache, asked),
+        Aim::Do(asked, _) => wants_asked(dcache, asked),
     }
 }

@@ -118,7 +118,7 @@ module _ (v : Parts) (sound : IsSound v) (k : ℕ) (value : State) (found : slic
   unmoved_is same = ap (λ (s : State). record { board = v.board; map = v.map; cores = slice_set v.cores k s; bus = v.bus; journal = v.journal; script = v.script }) same ∙ ap (λ (xs : List State). record { board = v.board; map = v.map; cores = xs; bus = v.bus; journal = v.journal; script = v.script }) (slice_set-same v.cores k value found)
 
   pub quiet_sound : (x : Bool) → Told x → (x ≡ false → new ≡ value) → IsSound moved
-  quiet_sound true told same = core_sound v sound k value found new v.bus v.journal (λ b m at kept. (told b v.bus m at kept).0) refl
+  quiet_sound true told same = core_sound v sound k value found new v.bus v.journal (λ b m at kept. (told b v.bus m at kept).0) refl (λ h. h)
   quiet_sound false told same = subst (λ (y : Parts). IsSound y) (sym (unmoved_is (same refl))) sound
 
   pub quiet_follows : (x : Bool) → Told x → (m : Machine) → StandsFor v m → IsBookKept v.board v.map m → (at : StandsAt v.board v.map k value v.bus v.journal m) → (x ≡ false → new ≡ value) → Follows moved x (quiet_turn v.board v.map m k)

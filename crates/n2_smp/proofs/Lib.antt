@@ -1,3 +1,4 @@
+pub mod Rows
 pub mod Passing
 pub mod Cores
 pub mod Events

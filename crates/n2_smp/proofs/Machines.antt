@@ -1,5 +1,5 @@
 -- A machine after a turn stands for the definition's state after it.
-use Rattle.std.proofs.Common.{◌≡◌, ◌≢◌, ℕ, ◌<◌, ◌≤◌, Bool, List, length, slice_get, slice_set, get_or, Option, Some, None, cond, refl, ap, sym, ◌∙◌, arith, subst, length-set}
+use Rattle.std.proofs.Common.{◌≡◌, ◌≢◌, ℕ, ◌<◌, ◌≤◌, ◌++◌, Bool, List, [], ◌∷◌, length, slice_get, slice_set, get_or, Option, Some, None, cond, refl, ap, sym, ◌∙◌, arith, subst, length-set}
 use Rattle.std.specs.Prelude.{is_some}
 use Rattle.std.proofs.lemmas.Bool.{eqb-true}
 use Rattle.std.proofs.lemmas.Option.{slice_get-get_or}
@@ -16,7 +16,7 @@ use Rattle.n2_front.specs.Core.{Core, stop_of}
 use Rattle.n2_cpu.specs.declared.state.State.{State}
 use Rattle.n2_cpu.specs.Stands as cpu
 use Rattle.n2_cpu.proofs.Others.{with_watch, watch_in}
-use Rattle.n2_runs.specs.Machine.{Machine, Made, script_is_over, core_is_over, is_over, turn}
+use Rattle.n2_runs.specs.Machine.{Machine, Made, script_is_over, core_is_over, is_over, start, turn, run}
 use Rattle.n2_runs.specs.FlatRun.{Flat}
 use Rattle.n2_runs.specs.Along.{IsAlong, after}
 use Rattle.n2_runs.specs.Knows.{KnowsSame, IsBookKept}
@@ -25,7 +25,9 @@ use Rattle.n2_runs.proofs.Sets.{within}
 use Rattle.n2_runs.proofs.Books.{book_kept, known_same, other_core}
 use Rattle.n2_runs.proofs.Turns.{turn_keeps}
 use Rattle.n2_runs.proofs.Views.{turn_cases}
+use Rattle.n2_runs.proofs.Quiets.{run-append}
 use Rattle.n2_smp.specs.declared.turns.Turned.{Turned}
+use Rattle.n2_smp.specs.Rows.{FitRows}
 use Rattle.n2_smp.specs.Scripts.{Reached, left, IsReached}
 use Rattle.n2_smp.specs.Standing.{Parts, StandsFor, IsSound, StandsAt, IsReady, IsTurnedAt, EventsStandFor, AreTurned, answer_of}
 use Rattle.n2_smp.proofs.Cores.{some_within, not_less}
@@ -37,6 +39,14 @@ left_standing b map k s c w other h same = with_watch b map k s c w other h (wat
 -- a turn of a core leaves the script
 script_left : (b : Board) (map : AddressMap) (m : Machine) → length m.cores ≡ length b.core → (k : ℕ) → k < length b.core → (turn b map m k).machine.script ≡ m.script
 script_left b map m count k lt = turn_cases b map m count k (λ (x : Made). x.machine.script ≡ m.script) (λ e. refl) (λ row c h quiet. refl) (λ row c request h wants room. refl) (λ event script e h room. absurd (omega (arith, lt)))
+
+-- one more turn of a run
+one_turn : (b : Board) (map : AddressMap) (k : ℕ) (m : Machine) → run b map m (k ∷ []) ≡ (turn b map m k).machine
+unfolding run
+one_turn b map k m = refl
+
+along_after : (b : Board) (map : AddressMap) (first m : Machine) (order : List ℕ) (k : ℕ) → m ≡ run b map first order → (turn b map m k).machine ≡ run b map first (order ++ k ∷ [])
+along_after b map first m order k e = ap (λ (x : Machine). (turn b map x k).machine) e ∙ sym (run-append b map order (k ∷ []) first ∙ one_turn b map k (run b map first order))
 
 module _ (v : Parts) (sound : IsSound v) where
   abbrev b : Board
@@ -86,12 +96,15 @@ module _ (v : Parts) (sound : IsSound v) where
             script = h.script ∙ sym (script_left v.board v.map m kept.count k core_within);
           }
 
-      pub core_sound : journal.content.tails ≡ v.journal.content.tails → IsSound next
-      core_sound tails = record {
+      pub core_sound : journal.content.tails ≡ v.journal.content.tails → (FitRows v.journal.content.entries → FitRows journal.content.entries) → IsSound next
+      core_sound tails rows = record {
         map_of = sound.map_of;
         reached = sound.reached;
         tails = ap (λ (xs : List ℕ). length xs) tails ∙ sound.tails;
+        rows = rows sound.rows;
         state = (turn v.board v.map sound.state k).machine;
+        order = sound.order ++ k ∷ [];
+        along = along_after v.board v.map (start v.board sound.map_of.images) sound.state sound.order k sound.along;
         stands = core_stands sound.state sound.stands sound.kept;
         kept = kept_after sound.state k sound.kept;
       }
@@ -121,12 +134,15 @@ module _ (v : Parts) (sound : IsSound v) where
     pub event_answers : (m : Machine) (actor : ℕ) → actor ≡ length v.board.core → StandsFor v m → answer ≡ answer_of (is_over v.board m actor) (turn v.board v.map m actor).act
     event_answers m actor is h = (events_after m h).answer_is ∙ sym (ap (λ (n : ℕ). answer_of (is_over v.board m n) (turn v.board v.map m n).act) is)
 
-    pub event_sound : (actor : ℕ) → actor ≡ length v.board.core → IsReached v.board script → journal.content.tails ≡ v.journal.content.tails → IsSound next_of
-    event_sound actor is reached tails = record {
+    pub event_sound : (actor : ℕ) → actor ≡ length v.board.core → IsReached v.board script → journal.content.tails ≡ v.journal.content.tails → (FitRows v.journal.content.entries → FitRows journal.content.entries) → IsSound next_of
+    event_sound actor is reached tails rows = record {
       map_of = sound.map_of;
       reached = reached;
       tails = ap (λ (xs : List ℕ). length xs) tails ∙ sound.tails;
+      rows = rows sound.rows;
       state = (turn v.board v.map sound.state actor).machine;
+      order = sound.order ++ actor ∷ [];
+      along = along_after v.board v.map (start v.board sound.map_of.images) sound.state sound.order actor sound.along;
       stands = event_stands sound.state actor is sound.stands sound.kept;
       kept = kept_after sound.state actor sound.kept;
     }

@@ -1,3 +1,4 @@
+pub mod Rows
 pub mod Scripts
 pub mod Standing
 pub mod Replayed

@@ -5,7 +5,7 @@ use Rattle.n2_parts.specs.declared.stops.Act.{Act}
 use Rattle.n2_board.specs.AddressMap.{AddressMap}
 use Rattle.n2_bus.specs.Transfer.{BusState}
 use Rattle.n2_bus.specs.Transfer as bus
-use Rattle.n2_journal.specs.Journals.{Limited}
+use Rattle.n2_journal.specs.Journals.{Limited, IsWithinLimits}
 use Rattle.n2_watch.specs.World.{shared, start_world}
 use Rattle.n2_watch.specs.Watched.{IsMapOf}
 use Rattle.n2_parts.specs.declared.board.CoreRow.{CoreRow}
@@ -15,12 +15,13 @@ use Rattle.n2_front.specs.Core.{Core, started_core, stop_of}
 use Rattle.n2_front.specs.Turn.{wants}
 use Rattle.n2_cpu.specs.declared.state.State.{State}
 use Rattle.n2_cpu.specs.Stands as cpu
-use Rattle.n2_runs.specs.Machine.{Machine, turn, is_over}
+use Rattle.n2_runs.specs.Machine.{Machine, start, turn, run, is_over}
 use Rattle.n2_runs.specs.Recorded.{journal_of}
 use Rattle.n2_smp.specs.declared.machine.Ran.{Ran}
 use Rattle.n2_runs.specs.Knows.{IsBookKept}
 use Rattle.n2_smp.specs.declared.turns.Turned.{Turned}
 use Rattle.n2_smp.specs.declared.turns.Turned.TheVariants as answers
+use Rattle.n2_smp.specs.Rows.{FitRows}
 use Rattle.n2_smp.specs.Scripts.{Reached, left, IsReached}
 
 -- the parts of a machine, its board with the map of its images among them
@@ -41,12 +42,15 @@ pub record StandsFor (v : Parts) (m : Machine) : Type 0 where
   pub limit : v.journal.limit ≡ v.board.journal
   pub script : left v.board v.script ≡ m.script
 
--- what a machine keeps by itself: it stands for a state that keeps what books keep
+-- what a machine keeps by itself: it stands for a state of a run from the start, and each entry has a row
 pub record IsSound (v : Parts) : Type 0 where
   pub map_of : IsMapOf v.board v.map
   pub reached : IsReached v.board v.script
   pub tails : length v.journal.content.tails ≡ length v.board.core
+  pub rows : FitRows v.journal.content.entries
   pub state : Machine
+  pub order : List ℕ
+  pub along : state ≡ run v.board v.map (start v.board map_of.images) order
   pub stands : StandsFor v state
   pub kept : IsBookKept v.board v.map state
 
@@ -117,9 +121,11 @@ AreOpened b map values images = (k : ℕ) (value : State) (image : Image) → sl
 abbrev pub locals_of : List State → List ℕ
 locals_of values = map (λ (value : State). value.clock.local) values
 
--- what a machine hands out stands for a state: its cores, its bus, and its whole journal
+-- what a machine hands out stands for a state: its cores, its bus, and its whole journal, which is within the limits of one that
+-- has a text
 pub record RanStandsFor (b : Board) (map : AddressMap) (ran : Ran) (m : Machine) : Type 0 where
   pub count : length ran.cores ≡ length b.core
   pub cores : (k : ℕ) (value : State) (c : Core) → slice_get ran.cores k ≡ Some value → slice_get m.cores k ≡ Some c → cpu.StandsFor b map k value c m.world
   pub bus : bus.StandsFor b ran.bus (shared m.world)
   pub journal : ran.journal.content ≡ journal_of m
+  pub within : IsWithinLimits ran.journal.content

@@ -1,6 +1,7 @@
 //! The caching machine over an order of turns.
 #![tactic(auto)]
 
+mod entries;
 mod machine;
 mod replay;
 mod script;

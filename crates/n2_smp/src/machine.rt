@@ -130,7 +130,8 @@ impl Machine {
         self.cores[core as usize].stop()
     }
 
-    /// Hands out the cores, the bus and the journal, with the tail of each core.
+    /// Hands out the cores, the bus and the journal, with the tail of each core. The journal is within the
+    /// limits of one that has a text, so its text is read as that journal.
     pub fn finish(self) -> Ran
         ensures { (m : Caching) → StandsFor self m → length m.cores ≡ length self.board.core → RanStandsFor self.board self.map result m }
     {

@@ -8,9 +8,11 @@ ghost use Rattle.n2_bus.specs.Transfer as transfers;
 ghost use Rattle.n2_bus.specs.Wiring.{wiring_of, proper};
 ghost use Rattle.n2_runs.specs.Machine.{Machine};
 ghost use Rattle.n2_runs.specs.Knows.{IsBookKept};
+ghost use Rattle.n2_smp.specs.Rows.{FitRows};
 ghost use Rattle.n2_smp.specs.Scripts.{IsReached};
 ghost use Rattle.n2_smp.specs.Standing.{StandsAt, IsReady, IsWanted, IsMadeAt, IsTurnedAt, EventsStandFor, AreTurned, answer_of};
 
+use crate::entries::have_types;
 use crate::script::Script;
 use n2_board::{Act, Board, DeviceEvent, Layout};
 use n2_bus::{Bus, Request};
@@ -58,6 +60,7 @@ fn transfer(
     requires wanted { (b : BoardValue) (m : Machine) → StandsAt b layout.now actor core.old bus.old journal.old m → IsBookKept b layout.now m → IsWanted b layout.now actor m request }
     ensures made { (b : BoardValue) (m : Machine) → StandsAt b layout.now actor core.old bus.old journal.old m → IsBookKept b layout.now m → IsMadeAt b layout.now actor core.new bus.new journal.new m result }
     ensures tails { journal.new.content.tails ≡ journal.old.content.tails }
+    ensures rows { FitRows journal.old.content.entries → FitRows journal.new.content.entries }
 {
     if !has_room(journal) {
         core.full();
@@ -66,6 +69,7 @@ fn transfer(
     let local = core.since_transfer();
     let reply = bus.transfer(actor, &request);
     let act = core.answer(layout, &request, &reply);
+    have_types(&request, &reply);
     journal.add(Entry {
         local,
         actor,
@@ -88,6 +92,7 @@ pub fn turn_of_core(
     ensures turned { (b : BoardValue) (m : Machine) → StandsAt b layout.now actor core.old bus.old journal.old m → IsBookKept b layout.now m → IsTurnedAt b layout.now actor core.new bus.new journal.new m result }
     ensures over { result ≡ Turned.Over → (core.new ≡ core.old) × (bus.new ≡ bus.old) × (journal.new ≡ journal.old) }
     ensures tails { journal.new.content.tails ≡ journal.old.content.tails }
+    ensures rows { FitRows journal.old.content.entries → FitRows journal.new.content.entries }
 {
     match core.step(layout) {
         Step::Made(act) => made(act),
@@ -123,6 +128,7 @@ pub fn turn_of_devices(
     ensures reached { IsReached board.now script.new }
     ensures over { result ≡ Turned.Over → (bus.new ≡ bus.old) × (journal.new ≡ journal.old) × (script.new ≡ script.old) }
     ensures tails { journal.new.content.tails ≡ journal.old.content.tails }
+    ensures rows { FitRows journal.old.content.entries → FitRows journal.new.content.entries }
 {
     if !has_room(journal) {
         return Turned::Over;
@@ -132,6 +138,7 @@ pub fn turn_of_devices(
     };
     let request = request_of(event);
     let reply = bus.transfer(actor, &request);
+    have_types(&request, &reply);
     journal.add(Entry {
         local: 0,
         actor,

@@ -5,7 +5,9 @@ use Rattle.n2_bus.specs.declared.request.Reply.{Reply}
 use Rattle.n2_journal.specs.Journals.{Limited, with_entry}
 use Rattle.n2_parts.specs.declared.stops.Act.{Act}
 use Rattle.n2_smp.specs.Standing.{IsMadeAt}
+use Rattle.n2_smp.specs.Rows.{FitRows}
 use Rattle.n2_smp.proofs.Cores.{full_turned, entered_turned}
+use Rattle.n2_smp.proofs.Rows.{row_fits, one_more}
 use Rattle.n2_smp.proofs.turns.transfer.Goals as goal
 
 pub returns-then-not-has_room-clause-made : goal.returns-then-not-has_room-clause-made
@@ -24,3 +26,10 @@ returns-clause-made c = λ b m at kept.
     in
     subst (λ (x : BusState). IsMadeAt b c.args.layout.now c.args.actor c.answer-act.new.self x c.add.new.self m c.answer-act.result) (sym c.transfer-reply.ensures.after)
     (subst (λ (x : Limited). IsMadeAt b c.args.layout.now c.args.actor c.answer-act.new.self (bus_after c.args.bus.now c.args.actor c.args.request) x m c.answer-act.result) (sym entered) made)
+
+pub returns-clause-rows : goal.returns-clause-rows
+returns-clause-rows c = λ rows.
+    let r = c.requires.ready in
+    subst (λ (j : Limited). FitRows j.content.entries) (sym c.add.ensures)
+    (one_more c.args.journal.now.content.entries _ rows
+    (row_fits r.board r.map_of.valid c.args.bus.now r.stands.bus.wiring c.args.actor c.since_transfer-local.result c.args.request c.transfer-reply.result c.requires.proper c.have_types.ensures.request c.have_types.ensures.reply c.transfer-reply.ensures.reply))

@@ -5,7 +5,9 @@ use Rattle.n2_bus.specs.Transfer.{BusState, served, bus_after, request_for}
 use Rattle.n2_journal.specs.Journals.{Limited, with_entry}
 use Rattle.n2_smp.specs.declared.turns.Turned.TheVariants.{Acted}
 use Rattle.n2_smp.specs.Standing.{AreTurned}
+use Rattle.n2_smp.specs.Rows.{FitRows}
 use Rattle.n2_smp.proofs.Events.{full_turned, used_up, event_turned}
+use Rattle.n2_smp.proofs.Rows.{event_fits, one_more}
 use Rattle.n2_smp.proofs.turns.turn_of_devices.Goals as goal
 
 pub returns-then-not-has_room-clause-turned : goal.returns-then-not-has_room-clause-turned
@@ -36,3 +38,10 @@ returns-clause-turned c = λ map m h.
     in
     subst (λ (x : BusState). AreTurned c.args.board.now map x c.add.new.self c.pass.new.self m (Acted (Device c.in-Some.event))) (sym after)
     (subst (λ (x : Limited). AreTurned c.args.board.now map (bus_after c.args.bus.now (length c.args.board.now.core) (request_for c.in-Some.event)) x c.pass.new.self m (Acted (Device c.in-Some.event))) (sym entered) made)
+
+pub returns-clause-rows : goal.returns-clause-rows
+returns-clause-rows c = λ rows.
+    subst (λ (j : Limited). FitRows j.content.entries) (sym c.add.ensures)
+    (one_more c.args.journal.now.content.entries _ rows
+    (event_fits c.args.board.now c.requires.valid c.args.bus.now c.requires.wiring c.args.actor c.requires.actor c.in-Some.event c.request_of-request.result c.request_of-request.ensures c.transfer-reply.result (c.in-Some.ensures.proper c.requires.valid)
+    c.have_types.ensures.request c.have_types.ensures.reply c.transfer-reply.ensures.reply))

@@ -16,4 +16,4 @@ returns c =
     (λ m h many.
     subst (λ (xs : List State). RanStandsFor c.self.inside.board c.self.inside.layout (record { cores = xs; bus = c.self.inside.bus; journal = c.set_tails.new.journal }) m) (sym c.from_vec.ensures)
     (subst (λ (j : Limited). RanStandsFor c.self.inside.board c.self.inside.layout (record { cores = c.self.inside.cores.items; bus = c.self.inside.bus; journal = j }) m) (sym journal)
-    (ran_stands _ m h many)))
+    (ran_stands _ c.self.invariant m h many)))

@@ -3,7 +3,6 @@ use Rattle.n2_parts.specs.declared.board.Board.{Board}
 use Rattle.n2_parts.proofs.Small.{valid_small}
 use Rattle.n2_board.specs.AddressMap.{AddressMap, address_map}
 use Rattle.n2_journal.specs.Journals.{Limited}
-use Rattle.n2_watch.specs.Watched.{IsMapOf}
 use Rattle.n2_runs.specs.Machine.{start}
 use Rattle.n2_runs.specs.Knows.{IsBookKept}
 use Rattle.n2_runs.proofs.Books.{start_kept}
@@ -23,8 +22,7 @@ invariant_of-result c =
     let count : length c.in_ok-cores.cores.items ≡ length c.args.board.now.core = c.in_ok-cores.ensures.count ∙ c.requires.images in
     let many : length c.args.board.now.core ≡ c.len.result = omega arith in
     let stands = start_stands c.args.board.now c.in_ok-layout.layout c.args.images.now c.in_ok-cores.cores.items c.in_ok-bus.bus c.new.result c.len.result count c.in_ok-cores.ensures.opened c.in_ok-bus.ensures.stands (c.new.ensures.all c.args.board.now) in
-    let map_of : IsMapOf c.args.board.now c.in_ok-layout.layout = record { valid = c.requires.valid; images = c.args.images.now; count = c.requires.images; maps = c.in_ok-layout.ensures.opened } in
-    let sound = start_sound c.args.board.now c.in_ok-layout.layout c.args.images.now c.in_ok-cores.cores.items c.in_ok-bus.bus c.new.result c.len.result map_of (start_kept c.args.board.now c.args.images.now c.in_ok-layout.layout c.requires.images) (c.new.ensures.reached c.args.board.now c.requires.valid) many stands in
+    let sound = start_sound c.args.board.now c.in_ok-layout.layout c.args.images.now c.in_ok-cores.cores.items c.in_ok-bus.bus c.new.result c.len.result c.requires.valid c.requires.images c.in_ok-layout.ensures.opened (start_kept c.args.board.now c.args.images.now c.in_ok-layout.layout c.requires.images) (c.new.ensures.reached c.args.board.now c.requires.valid) many stands in
     subst (λ (b : Board). IsSound (record { board = b; map = c.in_ok-layout.layout; cores = c.in_ok-cores.cores.items; bus = c.in_ok-bus.bus; journal = c.in_ok-journal.journal; script = c.new.result })) (sym c.in_ok-copy.ensures)
     (subst (λ (j : Limited). IsSound (record { board = c.args.board.now; map = c.in_ok-layout.layout; cores = c.in_ok-cores.cores.items; bus = c.in_ok-bus.bus; journal = j; script = c.new.result })) (sym c.in_ok-journal.ensures) sound)
 

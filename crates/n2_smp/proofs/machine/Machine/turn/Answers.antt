@@ -14,7 +14,7 @@ invariant_of-self c =
     let count = c.self.invariant.stands.count in
     let is : c.args.actor ≡ length c.self.inside.board.core = omega arith in
     event_sound _ c.self.invariant c.turn_of_devices.new.bus c.turn_of_devices.new.journal c.turn_of_devices.new.script c.turn_of_devices.result c.turn_of_devices.ensures.turned
-    c.args.actor is c.turn_of_devices.ensures.reached c.turn_of_devices.ensures.tails
+    c.args.actor is c.turn_of_devices.ensures.reached c.turn_of_devices.ensures.tails c.turn_of_devices.ensures.rows
 
 pub returns-then-actor-len-clause-stands : goal.returns-then-actor-len-clause-stands
 returns-then-actor-len-clause-stands c =
@@ -46,7 +46,7 @@ invariant_of-self-2 c =
     let board = ap (λ (v : Parts). length v.board.core) c.self.view_is in
     let lt : c.args.actor < length c.self.inside.cores.items = omega arith in
     core_sound _ c.self.invariant c.args.actor c.index_mut.result.now (indexed c.self.inside.cores.items c.args.actor c.index_mut.result.now lt c.index_mut.ensures.value)
-    c.turn_of_core.new.core c.turn_of_core.new.bus c.turn_of_core.new.journal (λ b m at kept. (c.turn_of_core.ensures.turned b m at kept).stands) c.turn_of_core.ensures.tails
+    c.turn_of_core.new.core c.turn_of_core.new.bus c.turn_of_core.new.journal (λ b m at kept. (c.turn_of_core.ensures.turned b m at kept).stands) c.turn_of_core.ensures.tails c.turn_of_core.ensures.rows
 
 pub returns-clause-stands : goal.returns-clause-stands
 returns-clause-stands c =

@@ -130,6 +130,14 @@ impl Machine {
         self.cores[core as usize].stop()
     }
 
+    /// A core, as it stands between turns.
+    pub fn core(&self, core: u32) -> &Core
+        requires { core < length self.now.board.core }
+        ensures { slice_get self.now.cores core ≡ Some result.now }
+    {
+        &self.cores[core as usize]
+    }
+
     /// Hands out the cores, the bus and the journal, with the tail of each core. The journal is within the
     /// limits of one that has a text, so its text is read as that journal.
     pub fn finish(self) -> Ran

@@ -1,7 +1,7 @@
 pub mod PlainBoard
 pub mod Straying
-pub mod Judged
 pub mod Noted
+pub mod Judged
 pub mod Shared
 pub mod Guarded
 pub mod Uarts

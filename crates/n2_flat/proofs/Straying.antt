@@ -15,15 +15,14 @@ use Rattle.n2_board.specs.declared.access.Target.{Target}
 use Rattle.n2_board.specs.declared.access.Target.TheVariants as targets
 use Rattle.n2_board.specs.declared.access.Violation.{Violation}
 use Rattle.n2_board.specs.declared.access.Violation.TheVariants.{Stray, Separate}
-use Rattle.n2_board.specs.declared.access.Route.TheVariants.{Cached, Bypassing}
+use Rattle.n2_board.specs.declared.access.Route.TheVariants.{Bypassing}
 use Rattle.n2_board.specs.declared.guards.Guard.{Guard}
 use Rattle.n2_board.specs.declared.guards.Guard.TheVariants as guard_kinds
 use Rattle.n2_board.specs.AddressMap.{AddressMap, class_of}
-use Rattle.n2_board.specs.Guards.{guard_of, passed_region}
+use Rattle.n2_board.specs.Guards.{passed_region}
 use Rattle.n2_board.specs.Access.{data_target}
 use Rattle.n2_watch.specs.declared.access.Access.TheVariants as accesses
-use Rattle.n2_watch.specs.Past.{stale}
-use Rattle.n2_watch.specs.Discipline.{Breach, Strays, Breaks, Knowledge, line_breach, gives, mutex_breach, lists, post_breach, is_post, side_breach, mailbox_breach, device_breach, direction, cached_breach, bypass_breach, breach}
+use Rattle.n2_watch.specs.Discipline.{Breach, Strays, Breaks, Knowledge, gives, mutex_breach, lists, post_breach, is_post, side_breach, mailbox_breach, device_breach, direction, bypass_breach, breach}
 
 abbrev strays : Option Breach → Bool
 strays None = false
@@ -37,10 +36,6 @@ if_not false x y h i = i
 flush_not : (o : Option ℕ) → strays (option_map (λ number. Breaks Flush number) o) ≡ false
 flush_not None = refl
 flush_not (Some number) = refl
-
-line_not : (map : AddressMap) (who : Knowledge) (guard : Option Guard) (number : ℕ) → strays (line_breach map who guard number) ≡ false
-line_not map who None number = if_not (stale map who.sets who.past number) _ _ refl refl
-line_not map who (Some guard) number = if_not (who.owns guard) _ _ (if_not (stale map who.sets who.past number) _ _ refl refl) refl
 
 gives_not : (map : AddressMap) (who : Knowledge) (guard : Guard) → strays (gives map who guard) ≡ false
 gives_not map who guard = flush_not _
@@ -69,20 +64,6 @@ device_not b map who kind index offset store value number = refl
 
 known : (o : Option Breach) → strays o ≡ false → o ≡ Some Strays → ⊥
 known o h e = true≢false (sym (ap strays e) ∙ h)
-
--- ---- through the cache
-pub cached_strays : (b : Board) (map : AddressMap) (who : Knowledge) (address : ℕ) (store : Bool) (width : Width) → data_target map who.core address width Cached (direction store) ≡ Err Stray → breach b map who (accesses.Cached address store) width ≡ Some Strays
-unfolding breach
-cached_strays b map who address store width e = ap (λ t. cached_breach map who t (line address)) e
-
-cached_target : (map : AddressMap) (who : Knowledge) (t : Result Target Violation) (number : ℕ) → (t ≡ Err Stray → ⊥) → strays (cached_breach map who t number) ≡ false
-cached_target map who (Err Stray) number n = absurd (n refl)
-cached_target map who (Err Separate) number n = refl
-cached_target map who (Ok target) number n = line_not map who (guard_of (class_of map number)) number
-
-pub cached_known : (b : Board) (map : AddressMap) (who : Knowledge) (address : ℕ) (store : Bool) (width : Width) → (data_target map who.core address width Cached (direction store) ≡ Err Stray → ⊥) → breach b map who (accesses.Cached address store) width ≡ Some Strays → ⊥
-unfolding breach
-cached_known b map who address store width n = known _ (cached_target map who (data_target map who.core address width Cached (direction store)) (line address) n)
 
 -- ---- past it
 pub past_strays : (b : Board) (map : AddressMap) (who : Knowledge) (address : ℕ) (store : Bool) (value : ℕ) (width : Width) → data_target map who.core address width Bypassing (direction store) ≡ Err Stray → breach b map who (accesses.Bypass address store value) width ≡ Some Strays

@@ -1,5 +1,5 @@
 -- What the flat machine keeps, beside what the definition has, and when it is whole.
-use Rattle.std.specs.Prelude.{◌≡◌, ℕ, ◌%◌, ◌<◌, List, [], ◌∷◌, length, map, Bool, true, false, not, ◌==◌, if◌then◌else◌, IsTrue, Option, Some, None, option_map, slice_get, get_or}
+use Rattle.std.specs.Prelude.{◌≡◌, ℕ, ◌%◌, ◌<◌, List, [], ◌∷◌, length, map, Bool, true, false, not, ◌==◌, if◌then◌else◌, IsTrue, Option, Some, None, Result, Ok, Err, option_map, slice_get, get_or}
 use Rattle.n2_exec.specs.declared.registers.Regs.{Regs}
 use Rattle.n2_elf.specs.declared.image.Image.{Image}
 use Rattle.n2_parts.specs.declared.board.Board.{Board}
@@ -66,6 +66,11 @@ acted_by c common = acted c.front common.world
 abbrev pub stop_of : ℕ → ℕ → ℕ → Option Breach → Option Stop
 stop_of pc word address None = None
 stop_of pc word address (Some why) = Some (stop_for why pc word address)
+
+-- why a judgement stops the core, if it does
+abbrev pub stop_in : Result ℕ Stop → Option Stop
+stop_in (Ok place) = None
+stop_in (Err stop) = Some stop
 
 -- ---- when a state is whole
 

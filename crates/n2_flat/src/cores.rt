@@ -14,13 +14,13 @@ ghost use Rattle.n2_watch.specs.Watched.{StandsFor, address_of};
 ghost use Rattle.n2_front.specs.Front.{noted, stopped};
 ghost use Rattle.n2_front.specs.Tasks as tasks;
 ghost use Rattle.n2_front.specs.Retire.{who};
-ghost use Rattle.n2_flat.specs.State.{IsWatched, HasSlots, stop_of};
+ghost use Rattle.n2_flat.specs.State.{IsWatched, HasSlots, stop_of, stop_in};
 
 use crate::events::Events;
 use n2_board::{Direction, Layout, Refusal, Route, Stop, Violation};
 use n2_exec::Regs;
 use n2_insn::DataOp;
-use n2_watch::{Access, Broken, Done, Past, Watch};
+use n2_watch::{Access, Broken, Done, Judged, Past, Watch};
 use n2_word::{NoMemory, Width};
 use std::marker::Model;
 
@@ -78,27 +78,23 @@ impl FlatCore {
         }
     }
 
-    /// The stop for a load or store through the cache, if it strays or is refused.
+    /// The stop for a load or store through the cache, if it strays or is refused; else the place where
+    /// its note looks for the record of its line first.
     #[inline(always)]
     pub fn judge_cached(
         &self,
-        k: u32,
         layout: &Layout,
         address: u32,
         width: Width,
         store: bool,
         word: u32,
-    ) -> Option<Stop>
-        ensures { (b : BoardValue) (book : Book) → StandsFor b layout.now k self.now.watch book self.now.front.past → result ≡ stop_of self.now.front.regs.pc word address (breach b layout.now (who b k self.now.front book) (accesses.Cached address store) width) }
+    ) -> Result<usize, Stop>
+        ensures { (b : BoardValue) (k : ℕ) (book : Book) → StandsFor b layout.now k self.now.watch book self.now.front.past → stop_in result ≡ stop_of self.now.front.regs.pc word address (breach b layout.now (who b k self.now.front book) (accesses.Cached address store) width) }
     {
-        match layout.data_target(k, address, width, Route::Cached, direction(store)) {
-            Err(Violation::Stray) => Some(Stop::Stray(address)),
-            Err(Violation::Separate) => self.judge(
-                layout,
-                &Access::Cached { address, store },
-                word,
-            ),
-            Ok(_) => self.judge(layout, &Access::Cached { address, store }, word),
+        match self.watch.judge_cached(layout, address, width, store) {
+            Judged::Passed(place) => Ok(place),
+            Judged::Refused(broken) => Err(refused(broken, self.regs.pc, word)),
+            Judged::Stray => Err(Stop::Stray(address)),
         }
     }
 
@@ -135,11 +131,10 @@ impl FlatCore {
         self.judge(layout, &Access::Op { op, address }, word)
     }
 
-    /// Notes a load or store of a line that the judge let pass. Want of memory comes too where the
-    /// watch's clock is at the end of its type.
+    /// Notes a load or store of a line that the judge let pass, with the place that it gave. Want of
+    /// memory comes too where the watch's clock is at the end of its type.
     #[inline(always)]
-    pub fn touch(&mut self, layout: &Layout, line: u32, store: bool) -> Result<(), NoMemory>
-        requires { HasSlots self.old.watch }
+    pub fn touch(&mut self, place: usize, line: u32, store: bool) -> Result<(), NoMemory>
         ensures noted { OnOk result (self.new.front ≡ noted self.old.front (events.Touch line store)) }
         ensures same { OnErr result (self.new ≡ self.old) }
         ensures watched { OnOk result ((b : BoardValue) (map : AddressMap) (k : ℕ) (book : Book) (address : ℕ) (width : WidthValue) → IsWatched b map k book self.old → line ≡ line_number address → breach b map (who b k self.old.front book) (accesses.Cached address store) width ≡ None → IsWatched b map k book self.new) }
@@ -148,7 +143,7 @@ impl FlatCore {
             return Err(NoMemory);
         }
         self.past.push(Past::Touch { line, store })?;
-        self.watch.note(layout, &Done::Touched { line, store });
+        self.watch.note_touched_at(place, line, store);
         Ok(())
     }
 

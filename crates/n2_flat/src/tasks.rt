@@ -34,6 +34,7 @@ impl FlatCore {
         k: u32,
         layout: &Layout,
         common: &Common,
+        place: usize,
         address: u32,
         width: Width,
         signed: bool,
@@ -47,7 +48,7 @@ impl FlatCore {
         ensures same { OnErr result (self.new ≡ self.old) }
         ensures watched { IsWatched board.now layout.now k common.now.world.book self.new }
     {
-        self.touch(layout, line_of(address), false)?;
+        self.touch(place, line_of(address), false)?;
         let value = common.read(address, width);
         self.regs.put_loaded(to, extended(value, width, signed));
         Ok(())
@@ -74,12 +75,14 @@ impl FlatCore {
         ensures same { OnErr result (self.new ≡ self.old) }
         ensures watched { IsWatched board.now layout.now k common.now.world.book self.new }
     {
-        match self.judge_cached(k, layout, address, width, false, word) {
-            Some(stop) => {
+        match self.judge_cached(layout, address, width, false, word) {
+            Ok(place) => {
+                self.load_let(board, k, layout, common, place, address, width, signed, to)
+            }
+            Err(stop) => {
                 self.halt(stop);
                 Ok(())
             }
-            None => self.load_let(board, k, layout, common, address, width, signed, to),
         }
     }
 
@@ -91,6 +94,7 @@ impl FlatCore {
         k: u32,
         layout: &Layout,
         common: &mut Common,
+        place: usize,
         address: u32,
         width: Width,
         value: u32,
@@ -104,7 +108,7 @@ impl FlatCore {
         ensures wiring { common.new.wiring ≡ common.old.wiring }
         ensures watched { IsWatched board.now layout.now k common.new.world.book self.new }
     {
-        self.touch(layout, line_of(address), true)?;
+        self.touch(place, line_of(address), true)?;
         common.write(address, width, value);
         self.regs.advance();
         Ok(())
@@ -131,12 +135,12 @@ impl FlatCore {
         ensures wiring { common.new.wiring ≡ common.old.wiring }
         ensures watched { IsWatched board.now layout.now k common.new.world.book self.new }
     {
-        match self.judge_cached(k, layout, address, width, true, word) {
-            Some(stop) => {
+        match self.judge_cached(layout, address, width, true, word) {
+            Ok(place) => self.store_let(board, k, layout, common, place, address, width, value),
+            Err(stop) => {
                 self.halt(stop);
                 Ok(())
             }
-            None => self.store_let(board, k, layout, common, address, width, value),
         }
     }
 

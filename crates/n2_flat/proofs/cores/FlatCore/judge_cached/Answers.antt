@@ -1,22 +1,28 @@
-use Rattle.std.proofs.Common.{◌≡◌, Option, Err, ap, sym}
-use Rattle.n2_board.specs.declared.access.Violation.TheVariants.{Stray}
-use Rattle.n2_board.specs.declared.access.Route.TheVariants.{Cached}
-use Rattle.n2_board.specs.Access.{data_target}
-use Rattle.n2_watch.specs.Discipline.{Breach, direction}
-use Rattle.n2_front.specs.Retire.{who}
-use Rattle.n2_flat.specs.State.{stop_of}
-use Rattle.n2_flat.proofs.Straying.{cached_strays, cached_known}
+use Rattle.std.proofs.Common.{ℕ, Some, None, sym, ap, subst, ◌∙◌}
+use Rattle.n2_parts.specs.declared.stops.Stop.{Stop}
+use Rattle.n2_watch.specs.Discipline.{Strays, Breaks}
+use Rattle.n2_front.specs.Tasks.{stop_for}
+use Rattle.n2_flat.proofs.Noted.{core_with}
+use Rattle.n2_flat.proofs.Judged.{IsTouchStop, touch_stop}
 use Rattle.n2_flat.proofs.cores.FlatCore.judge_cached.Goals as goal
 
-pub returns-in-Err-Stray : goal.returns-in-Err-Stray
-returns-in-Err-Stray c = λ b book h.
-    let e : data_target c.args.layout.now c.args.k c.args.address c.args.width Cached (direction c.args.store) ≡ Err Stray = cc in
-    ap (λ (o : Option Breach). stop_of c.args.self.now.front.regs.pc c.args.word c.args.address o) (sym (cached_strays b c.args.layout.now (who b c.args.k c.args.self.now.front book) c.args.address c.args.store c.args.width e))
+pub returns-in-Passed : goal.returns-in-Passed
+returns-in-Passed c = λ b k book.
+    let i = c.self.inside in
+    subst (IsTouchStop b c.args.layout.now k book c.args.address c.args.store c.args.width c.args.word None) c.self.view_is
+    (touch_stop b c.args.layout.now k book c.args.address c.args.store c.args.width c.args.word i.regs i.stop i.past i.watch None (c.in-Passed.ensures.breach b book i.past))
 
-pub returns-in-Err-Separate : goal.returns-in-Err-Separate
-returns-in-Err-Separate c = λ b book h.
-    c.judge.ensures b c.args.k book c.args.width h (cached_known b c.args.layout.now (who b c.args.k c.args.self.now.front book) c.args.address c.args.store c.args.width (λ x. cc))
+pub returns-in-Refused : goal.returns-in-Refused
+returns-in-Refused c = λ b k book.
+    let i = c.self.inside in
+    let broken = c.in-Refused.broken in
+    let same = c.refused.ensures ∙ ap (λ (n : ℕ). stop_for (Breaks broken.kind broken.line) i.regs.pc c.args.word n) c.in-Refused.ensures.address in
+    subst (IsTouchStop b c.args.layout.now k book c.args.address c.args.store c.args.width c.args.word (Some c.refused.result)) c.self.view_is
+    (subst (λ (stop : Stop). IsTouchStop b c.args.layout.now k book c.args.address c.args.store c.args.width c.args.word (Some stop) (core_with i.regs i.stop i.past i.watch)) (sym same)
+    (touch_stop b c.args.layout.now k book c.args.address c.args.store c.args.width c.args.word i.regs i.stop i.past i.watch (Some (Breaks broken.kind broken.line)) (c.in-Refused.ensures.breach b book i.past)))
 
-pub returns-in-Ok : goal.returns-in-Ok
-returns-in-Ok c = λ b book h.
-    c.judge-in-Ok.ensures b c.args.k book c.args.width h (cached_known b c.args.layout.now (who b c.args.k c.args.self.now.front book) c.args.address c.args.store c.args.width (λ x. cc))
+pub returns-in-Stray : goal.returns-in-Stray
+returns-in-Stray c = λ b k book.
+    let i = c.self.inside in
+    subst (IsTouchStop b c.args.layout.now k book c.args.address c.args.store c.args.width c.args.word _) c.self.view_is
+    (touch_stop b c.args.layout.now k book c.args.address c.args.store c.args.width c.args.word i.regs i.stop i.past i.watch (Some Strays) (c.in-Stray.ensures.breach b book i.past))

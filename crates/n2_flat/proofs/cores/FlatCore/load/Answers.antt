@@ -6,14 +6,14 @@ use Rattle.n2_flat.proofs.cores.FlatCore.load.Goals as goal
 
 pub load_let-requires-clause-unbroken : goal.load_let-requires-clause-unbroken
 load_let-requires-clause-unbroken c =
-    is_unbroken c.args.self.now.front.regs.pc c.args.word c.args.address _ (c.in-None.ensures c.args.board.now c.args.common.now.world.book c.requires.at.watched.stands)
+    is_unbroken c.args.self.now.front.regs.pc c.args.word c.args.address _ (c.in-Ok.ensures c.args.board.now c.args.k c.args.common.now.world.book c.requires.at.watched.stands)
 
-pub returns-in-Some-clause-done : goal.returns-in-Some-clause-done
-returns-in-Some-clause-done c =
-    halted c.args.board.now c.args.layout.now c.args.k c.args.self.now.front c.args.common.now.world c.args.word (tasks.Load c.args.address c.args.width c.args.signed c.args.to) c.halt.new.self.front c.in-Some.stop c.halt.ensures.front (c.in-Some.ensures c.args.board.now c.args.common.now.world.book c.requires.at.watched.stands)
+pub returns-in-Err-clause-done : goal.returns-in-Err-clause-done
+returns-in-Err-clause-done c =
+    halted c.args.board.now c.args.layout.now c.args.k c.args.self.now.front c.args.common.now.world c.args.word (tasks.Load c.args.address c.args.width c.args.signed c.args.to) c.halt.new.self.front c.in-Err.stop c.halt.ensures.front (c.in-Err.ensures c.args.board.now c.args.k c.args.common.now.world.book c.requires.at.watched.stands)
 
-pub returns-in-None-clause-done : goal.returns-in-None-clause-done
-returns-in-None-clause-done c =
+pub returns-in-Ok-clause-done : goal.returns-in-Ok-clause-done
+returns-in-Ok-clause-done c =
     on_ok c.load_let.result _ _
-    (let_pass c.args.board.now c.args.layout.now c.args.k c.args.self.now.front c.args.common.now.world c.args.word (tasks.Load c.args.address c.args.width c.args.signed c.args.to) (c.in-None.ensures c.args.board.now c.args.common.now.world.book c.requires.at.watched.stands) (acted_by c.load_let.new.self c.args.common.now))
+    (let_pass c.args.board.now c.args.layout.now c.args.k c.args.self.now.front c.args.common.now.world c.args.word (tasks.Load c.args.address c.args.width c.args.signed c.args.to) (c.in-Ok.ensures c.args.board.now c.args.k c.args.common.now.world.book c.requires.at.watched.stands) (acted_by c.load_let.new.self c.args.common.now))
     c.load_let.ensures.done

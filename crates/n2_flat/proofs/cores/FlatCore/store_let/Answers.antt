@@ -1,6 +1,6 @@
 use Rattle.std.proofs.Common.{sym, subst, true}
 use Rattle.n2_flat.specs.State.{CoreState, CommonState, IsWatched}
-use Rattle.n2_flat.proofs.Noted.{core_with, has_slots}
+use Rattle.n2_flat.proofs.Noted.{core_with}
 use Rattle.n2_flat.proofs.Tasked.{inside_memory}
 use Rattle.n2_flat.proofs.cores.FlatCore.store_let.Goals as goal
 
@@ -14,6 +14,3 @@ returns-clause-watched c =
     (subst (λ (s : CoreState). IsWatched c.args.board.now c.args.layout.now c.args.k c.args.common.now.world.book s → IsWatched c.args.board.now c.args.layout.now c.args.k c.args.common.now.world.book (core_with c.advance.new.self i.stop i.past i.watch)) c.self.view_is
     (λ h. record { stands = h.stands })
     (c.in_ok-touch.ensures.watched c.args.board.now c.args.layout.now c.args.k c.args.common.now.world.book c.args.address c.args.width c.requires.at.watched c.line_of.ensures c.requires.unbroken))
-
-pub touch-requires : goal.touch-requires
-touch-requires c = has_slots c.args.board.now c.args.layout.now c.args.k c.args.common.now.world.book c.args.self.now c.requires.at.watched

@@ -1,2 +1,3 @@
 pub mod RowSteps
 pub mod Sound
+pub mod Sized

@@ -2,6 +2,7 @@
 
 ghost use Rattle.std.specs.Prelude.{◌≡◌, ◌≢◌, IfOk, IfErr, Ok, Err};
 ghost use Rattle.std.specs.BTreeMap.{get_by_text};
+ghost use Rattle.n2_elf.specs.Reading.{IsSized};
 ghost use Rattle.n2_elf.specs.Writing.{IsWritable};
 ghost use Rattle.n2_asm.specs.Seen.{object_seen, survey_seen, output_seen};
 ghost use Rattle.n2_asm.specs.Sources as spec;
@@ -84,10 +85,11 @@ fn assembled(alloc: Global, source: &[u8]) -> Result<Object, AsmFault>
 }
 
 /// The image of a source with the addresses of its labels, or its first faulty row. The image can be
-/// written by `Image::write` of `n2_elf`.
+/// written by `Image::write` of `n2_elf`, and each of its segments holds its bytes.
 pub fn assemble(alloc: Global, source: &[u8]) -> Result<Object, AsmFault>
     ensures ok { IfOk result (λ o. spec.assembled source.now ≡ Ok (object_seen o)) }
     ensures writable { IfOk result (λ o. IsWritable o.image) }
+    ensures sized { IfOk result (λ o. IsSized o.image) }
     ensures fault { IfErr result (λ e. e ≢ AsmFault.NoMemory → spec.assembled source.now ≡ Err e) }
 {
     assembled(alloc, source)

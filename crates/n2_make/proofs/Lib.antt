@@ -1,3 +1,2 @@
-pub mod Sized
 pub mod WorkBoard
 pub mod Words

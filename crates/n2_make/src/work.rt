@@ -26,7 +26,7 @@ pub struct Work {
 }
 
 /// The image of a core's program, whose words are the generator's next.
-#[tactic(auto, using(crate::proofs::Sized::writable_sized), unfolding(crate::specs::Works::image_of))]
+#[tactic(auto, unfolding(crate::specs::Works::image_of))]
 fn image(alloc: Global, k: u32, n: u32, generator: &mut Lcg64Xsh32) -> Result<Image, AsmFault>
     requires core { k < 4 }
     requires words { generator.old ≡ before n k }

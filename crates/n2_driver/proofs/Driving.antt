@@ -1,13 +1,13 @@
 -- A machine on its way along a chosen order, from turn to turn.
-use Rattle.std.proofs.Common.{◌≡◌, ℕ, suc, ◌+◌, ◌-◌, ◌<◌, Bool, List, length, slice_set, Option, Some, None, refl, sym, ap, ◌∙◌, subst, arith}
+use Rattle.std.proofs.Common.{◌≡◌, ℕ, suc, Bool, List, length, slice_set, Option, Some, None, refl, sym, ap, ◌∙◌, subst}
 use Rattle.std.specs.Prelude.{option_map}
 use Rattle.n2_parts.specs.declared.board.Board.{Board}
 use Rattle.n2_board.specs.AddressMap.{AddressMap}
 use Rattle.n2_order.specs.Choices.{State, Choosing, next_of, picked, moved}
-use Rattle.n2_runs.specs.Machine.{Machine, turn, run, is_over}
+use Rattle.n2_runs.specs.Machine.{Machine, turn, is_over}
 use Rattle.n2_runs.specs.Knows.{IsBookKept}
 use Rattle.n2_smp.specs.Standing.{Parts, StandsFor}
-use Rattle.n2_driver.specs.Chosen.{overs, chosen}
+use Rattle.n2_driver.specs.Chosen.{overs}
 use Rattle.n2_driver.specs.Driving.{IsUnderway}
 use Rattle.n2_driver.proofs.Picking.{overs_moved, next_turn, no_turn, spent_turns}
 

@@ -1,8 +1,8 @@
 -- A run along a chosen order comes to its end.
-use Rattle.std.proofs.Common.{◌≡◌, ◌≢◌, ℕ, zero, suc, ◌+◌, ◌*◌, ◌-◌, ◌<◌, ◌≤◌, ◌++◌, ◌&&◌, Bool, true, false, cond, eqb, nat_le, nat_lt, List, [], ◌∷◌, length, slice_get, slice_set, Option, Some, None, refl, sym, ap, ◌∙◌, subst, arith, length-append}
+use Rattle.std.proofs.Common.{◌≡◌, ℕ, zero, suc, ◌+◌, ◌*◌, ◌-◌, ◌<◌, ◌≤◌, ◌&&◌, Bool, true, false, cond, eqb, nat_le, nat_lt, List, [], ◌∷◌, length, slice_get, slice_set, Option, Some, None, refl, sym, ap, ◌∙◌, subst, arith, length-append}
 use Rattle.std.proofs.Math.Nat.{mul-le-mul_left}
 use Rattle.std.proofs.lemmas.List.Elements.{All-head, All-tail}
-use Rattle.std.specs.Prelude.{All, is_some, IsTrue}
+use Rattle.std.specs.Prelude.{All, is_some}
 use Rattle.std.specs.Option.{option_or}
 use Rattle.std.specs.List.{list_all}
 use Rattle.std.proofs.lemmas.Bool.Decides.{nat_tests}
@@ -21,7 +21,7 @@ use Rattle.n2_parts.proofs.Sound.{all_good}
 use Rattle.n2_board.specs.AddressMap.{AddressMap}
 use Rattle.n2_bus.specs.declared.request.Request.{Request}
 use Rattle.n2_watch.specs.World.{World}
-use Rattle.n2_front.specs.Core.{Core, Spent, LogFull, stop_of, ended_stop, ended_after, started_core, log_full}
+use Rattle.n2_front.specs.Core.{Core, Spent, LogFull, stop_of, ended_stop, ended_after, log_full}
 use Rattle.n2_front.specs.Turn.{wants, core_turn}
 use Rattle.n2_order.specs.Choices.{State, next_of}
 use Rattle.n2_order.proofs.Picks.{picked_runs, none_where_over}
@@ -32,9 +32,10 @@ use Rattle.n2_runs.specs.Machine.{entry_of, Machine, Made, started_cores, start,
 use Rattle.n2_runs.proofs.Sets.{within}
 use Rattle.n2_runs.proofs.Begins.{as_many}
 use Rattle.n2_runs.proofs.Views.{quiet_by, quiet, turn_cases}
-use Rattle.n2_runs.proofs.Counted.{count_turn, count_run}
+use Rattle.n2_runs.proofs.Counted.{TurnIs, Over, Quiet, Enters, turn_is, count_turn, count_run}
 use Rattle.n2_runs.proofs.Compared.{true_false}
 use Rattle.n2_driver.specs.Chosen.{overs_from, overs, AreOver, chosen, most_turns, chosen_order}
+use Rattle.n2_driver.specs.Bounded.{made_turns, IsBounded}
 use Rattle.n2_driver.proofs.Picking.{over_at, next_turn, no_turn}
 
 -- a valid board has turns, and not too many of them, nor of entries
@@ -204,3 +205,34 @@ run_finished b images map order valid long =
 
 pub few_turns : (cores turns : ℕ) → cores ≤ 8 → turns ≤ 1000000000 → cores * turns ≤ 8000000000
 few_turns cores turns few most = let h : cores * turns ≤ cores * 1000000000 = mul-le-mul_left cores most in omega (arith, h, few)
+
+-- ---- the turns of a run
+
+over_same : (b : Board) (m x : Machine) (actor : ℕ) → TurnIs b m actor x → is_over b m actor ≡ true → x ≡ m
+over_same b m x actor (Over o e) over = e
+over_same b m x actor (Quiet o e s l) over = true_false (is_over b m actor) over o
+over_same b m x actor (Enters entry o e a l z) over = true_false (is_over b m actor) over o
+
+one_fewer : (b : Board) (map : AddressMap) (m : Machine) → length m.cores ≡ length b.core → (actor : ℕ) (over : Bool) → is_over b m actor ≡ over → cond over 0 1 + left_of b (turn b map m actor).machine ≤ left_of b m
+one_fewer b map m count actor true e =
+    let same : left_of b (turn b map m actor).machine ≡ left_of b m = ap (left_of b) (over_same b m (turn b map m actor).machine actor (turn_is b map m count actor) e) in
+    omega (arith, same)
+one_fewer b map m count actor false e = let less = turn_fewer b map m count actor e in omega (arith, less)
+
+-- each turn that is made is one of those that were left
+made_left : (b : Board) (map : AddressMap) (order : List ℕ) (m : Machine) → length m.cores ≡ length b.core → made_turns b map m order ≤ left_of b m
+unfolding made_turns
+made_left b map [] m count = omega arith
+made_left b map (actor ∷ order) m count =
+    let fewer = one_fewer b map m count actor (is_over b m actor) refl in
+    let rest = made_left b map order (turn b map m actor).machine (count_turn b map m count actor) in
+    both (cond (is_over b m actor) 0 1) (made_turns b map (turn b map m actor).machine order) (left_of b (turn b map m actor).machine) (left_of b m) fewer rest
+  where
+    both : (here made later now : ℕ) → here + later ≤ now → made ≤ later → here + made ≤ now
+    both here made later now fewer rest = omega (arith, fewer, rest)
+
+pub start_bounded : (b : Board) (images : List Image) (map : AddressMap) → IsValid b → length images ≡ length b.core → IsBounded b map (start b images)
+start_bounded b images map valid long order =
+    let made = made_left b map order (start b images) (as_many b.core images long) in
+    let few = started_left b (board_turns b valid).some b.core images in
+    omega (arith, made, few)

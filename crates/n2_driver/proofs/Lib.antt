@@ -1,3 +1,4 @@
 pub mod Picking
 pub mod Ending
 pub mod Driving
+pub mod Together

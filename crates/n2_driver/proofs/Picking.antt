@@ -1,9 +1,8 @@
 -- Who is over, and the next turn of a chosen order.
-use Rattle.std.proofs.Common.{◌≡◌, ◌≢◌, ℕ, zero, suc, ◌+◌, ◌-◌, ◌<◌, ◌≤◌, ◌++◌, Bool, true, false, cond, eqb, List, [], ◌∷◌, length, slice_get, slice_set, Option, Some, None, refl, sym, ap, ◌∙◌, subst, arith, length-set}
+use Rattle.std.proofs.Common.{◌≡◌, ◌≢◌, ℕ, zero, suc, ◌+◌, ◌++◌, Bool, false, cond, eqb, List, [], ◌∷◌, length, slice_get, slice_set, Option, Some, None, refl, sym, ap, ◌∙◌, arith, length-set}
 use Rattle.std.proofs.lemmas.Bool.Decides.{nat_tests}
 use Rattle.n2_parts.specs.declared.board.Board.{Board}
 use Rattle.n2_board.specs.AddressMap.{AddressMap}
-use Rattle.n2_front.specs.Core.{Core}
 use Rattle.n2_order.specs.Choices.{State, next_of}
 use Rattle.n2_runs.specs.Machine.{Machine, turn, run, script_is_over, core_is_over, is_over}
 use Rattle.n2_runs.proofs.Lists.{set_each}

@@ -1,5 +1,5 @@
 -- A machine that is on its way along a chosen order.
-use Rattle.std.specs.Prelude.{◌≡◌, ℕ, ◌-◌, List, Bool}
+use Rattle.std.specs.Prelude.{◌≡◌, ℕ, List, Bool}
 use Rattle.n2_parts.specs.declared.board.Board.{Board}
 use Rattle.n2_board.specs.AddressMap.{AddressMap}
 use Rattle.n2_order.specs.Choices.{State}

@@ -1,2 +1,4 @@
 pub mod Chosen
 pub mod Driving
+pub mod Beside
+pub mod Bounded

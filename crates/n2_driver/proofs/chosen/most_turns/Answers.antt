@@ -1,4 +1,4 @@
-use Rattle.std.proofs.Common.{◌≡◌, ◌≤◌, ◌*◌, ℕ, length, arith}
+use Rattle.std.proofs.Common.{arith}
 use Rattle.n2_driver.proofs.Ending.{board_turns, few_turns}
 use Rattle.n2_driver.proofs.chosen.most_turns.Goals as goal
 

@@ -1,8 +1,7 @@
-use Rattle.std.proofs.Common.{◌≡◌, ℕ, suc, ◌+◌, ◌-◌, ◌≤◌, ◌<◌, length, slice_set, Some, refl, sym, ap, ◌∙◌, arith, length-set}
+use Rattle.std.proofs.Common.{◌≡◌, suc, ◌+◌, ◌-◌, length, slice_set, ap, ◌∙◌, arith, length-set}
 use Rattle.n2_parts.specs.declared.board.Board.{Board}
-use Rattle.n2_runs.specs.Machine.{run}
 use Rattle.n2_runs.proofs.Sets.{within}
-use Rattle.n2_driver.specs.Chosen.{overs, most_turns, chosen_order}
+use Rattle.n2_driver.specs.Chosen.{most_turns}
 use Rattle.n2_driver.proofs.Driving.{picked_next, picked_none, next_underway, none_left, turns_spent}
 use Rattle.n2_driver.proofs.chosen.run_by.Goals as goal
 

@@ -1,6 +1,6 @@
-use Rattle.std.proofs.Common.{◌≡◌, ℕ, ◌+◌, ◌++◌, ◌∷◌, [], Bool, List, length, ap, sym, ◌∙◌, arith, subst, length-append}
+use Rattle.std.proofs.Common.{◌≡◌, ℕ, ◌+◌, ◌++◌, ◌∷◌, [], Bool, List, length, ap, sym, ◌∙◌, subst, length-append}
 use Rattle.n2_parts.specs.declared.board.Board.{Board}
-use Rattle.n2_runs.specs.Machine.{Machine, is_over}
+use Rattle.n2_runs.specs.Machine.{is_over}
 use Rattle.n2_driver.specs.Chosen.{overs_from}
 use Rattle.n2_driver.proofs.Picking.{overs_push, zero_more}
 use Rattle.n2_driver.proofs.chosen.who_is_over.Goals as goal

@@ -22,6 +22,12 @@ use Rattle.n2_inputs.specs.Journals.{asked_journal}
 unfoldable pub fitted : Board → List Image → Result Inputs Refusal
 fitted board images = fitting (open_fault board images) (record { board = board; images = images; layout = address_map board images })
 
+-- the inputs of a run
+unfoldable pub asked_inputs : Files → List ℕ → Result Inputs Refusal
+asked_inputs files name = do
+  machine ← asked_machine files name
+  fitted machine.0 machine.1
+
 -- the inputs of a run over an order, and the actors that its file lists
 unfoldable pub asked_run : Files → List ℕ → Asked → Result (Inputs × List ℕ) Refusal
 asked_run files name order = do

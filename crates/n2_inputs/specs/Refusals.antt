@@ -10,7 +10,7 @@ use Rattle.n2_asm.specs.FaultTexts.{fault_text as source_fault}
 use Rattle.n2_inputs.specs.declared.refusal.Role.{Role}
 use Rattle.n2_inputs.specs.declared.refusal.Role.TheVariants as roles
 use Rattle.n2_inputs.specs.declared.refusal.Refusal.{Refusal}
-use Rattle.n2_inputs.specs.declared.refusal.Refusal.TheVariants.{Usage, UnbuiltCommand, Absent, TooLong, BoardText, Image, Misfit, OrderRow, JournalText, JournalWrong, SourceRow}
+use Rattle.n2_inputs.specs.declared.refusal.Refusal.TheVariants.{Usage, RunUsage, Absent, TooLong, BoardText, Image, Misfit, OrderRow, JournalText, JournalWrong, SourceRow}
 
 -- a file has at most so many bytes
 abbrev pub limit_of : Role → ℕ
@@ -38,7 +38,7 @@ role_status roles.Order = 11
 
 abbrev pub status_of : Refusal → ℕ
 status_of Usage = 3
-status_of UnbuiltCommand = 12
+status_of RunUsage = 3
 status_of (Absent role) = role_status role
 status_of (TooLong role) = role_status role
 status_of (BoardText fault) = 4
@@ -82,7 +82,7 @@ journal_text journals.NoMemory = file_text roles.Journal (codes "nomemory")
 
 unfoldable pub text_of : Refusal → List ℕ
 text_of Usage = usage
-text_of UnbuiltCommand = codes "unbuilt command"
+text_of RunUsage = codes "usage: n2_mp run BOARD"
 text_of (Absent role) = file_text role (codes "absent")
 text_of (TooLong role) = file_text role (codes "too long")
 text_of (BoardText fault) = board_text fault

@@ -7,7 +7,7 @@ ghost use Rattle.n2_elf.specs.Reading.{IsSized};
 ghost use Rattle.n2_parts.specs.Valid.{IsValid};
 ghost use Rattle.n2_order.specs.Orders.{asked};
 ghost use Rattle.n2_journal.specs.Journals.{IsWithinLimits, HasOrder};
-ghost use Rattle.n2_inputs.specs.Asked.{fitted, asked_run, asked_replay, IsReady};
+ghost use Rattle.n2_inputs.specs.Asked.{fitted, asked_inputs, asked_run, asked_replay, IsReady};
 ghost use Rattle.n2_inputs.specs.Calls.{Gives, LeavesFolder, ReadFails};
 
 use crate::boards::read_machine;
@@ -33,7 +33,7 @@ pub struct Inputs {
 /// A board with its images and their layout. Images that do not fit the board are refused with the first
 /// thing that does not fit.
 #[tactic(auto, unfolding(crate::specs::Asked::fitted))]
-fn fit(alloc: Global, board: Board, images: Items<Image>) -> Result<Inputs, Failure>
+pub fn fit(alloc: Global, board: Board, images: Items<Image>) -> Result<Inputs, Failure>
     requires valid { IsValid board }
     requires images { length images ≡ length board.core }
     requires sized { AllByRecursion IsSized images }
@@ -48,6 +48,18 @@ fn fit(alloc: Global, board: Board, images: Items<Image>) -> Result<Inputs, Fail
         images,
         layout,
     })
+}
+
+/// What a run asks for: the board in a file, its images core by core, and the layout. The first refusal
+/// in this order ends it.
+#[tactic(auto, unfolding(crate::specs::Asked::asked_inputs))]
+pub fn read_inputs<F: Folder>(alloc: Global, folder: &mut F, board: &str) -> Result<Inputs, Failure>
+    ensures asked { (files : Files) → F.files folder.old ≡ Some files → Gives (λ inputs. inputs) (asked_inputs files board.now) result }
+    ensures ready { IfOk result (λ inputs. IsReady inputs) }
+    ensures folder { LeavesFolder (F.files folder.old) (F.files folder.new) (F.faults folder.old) (F.faults folder.new) result }
+{
+    let (board, images) = read_machine(alloc, folder, board)?;
+    fit(alloc, board, images)
 }
 
 /// What a run over an order asks for: the board in a file, its images core by core, the actors that

@@ -13,7 +13,7 @@ mod sources;
 
 pub use boards::{image_in, read_board, read_images, read_machine};
 pub use files::fetch_file;
-pub use inputs::{Inputs, read_replay, read_run};
+pub use inputs::{Inputs, fit, read_inputs, read_replay, read_run};
 pub use journals::read_journal;
 pub use orders::read_order;
 pub use refusal::{Failure, NoAnswer, Refusal, Role};

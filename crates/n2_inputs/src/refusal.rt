@@ -52,10 +52,10 @@ impl Role {
 /// The first thing for which what is asked is refused.
 #[derive(Clone, Copy, Debug, PartialEq, Eq)]
 pub enum Refusal {
-    /// The words are none of the table.
+    /// The words are none of the tool's table.
     Usage,
-    /// The command is not built yet.
-    UnbuiltCommand,
+    /// The words are none of those that run a board by threads.
+    RunUsage,
     /// No file has the name.
     Absent(Role),
     /// The file is longer than its limit.
@@ -78,19 +78,18 @@ pub enum Refusal {
 }
 
 impl Refusal {
-    /// The status that the tool ends with.
+    /// The status that a program ends with.
     pub fn status(&self) -> u8
         ensures { result ≡ spec.status_of self.now }
     {
         match self {
-            Refusal::Usage => 3,
+            Refusal::Usage | Refusal::RunUsage => 3,
             Refusal::Absent(role) | Refusal::TooLong(role) => role.status(),
             Refusal::BoardText(_) => 4,
             Refusal::Image(_, _) | Refusal::Misfit(_) => 5,
             Refusal::JournalText(_) | Refusal::JournalWrong(_) => 9,
             Refusal::SourceRow(_, _) => 10,
             Refusal::OrderRow(_) => 11,
-            Refusal::UnbuiltCommand => 12,
         }
     }
 }

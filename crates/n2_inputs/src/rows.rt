@@ -126,7 +126,7 @@ fn put_refusal(out: &mut Vec<u8>, refusal: &Refusal) -> Result<(), NoMemory>
 {
     match refusal {
         Refusal::Usage => put_usage(out),
-        Refusal::UnbuiltCommand => put_text(out, b"unbuilt command"),
+        Refusal::RunUsage => put_text(out, b"usage: n2_mp run BOARD"),
         Refusal::Absent(role) => put_file(out, *role, b"absent"),
         Refusal::TooLong(role) => put_file(out, *role, b"too long"),
         Refusal::BoardText(fault) => n2_boardtext::put_fault(out, fault),

@@ -1,5 +1,5 @@
 -- A core that acts again and again.
-use Rattle.std.proofs.Common.{◌≡◌, ℕ, zero, suc, ◌+◌, ◌-◌, ◌<◌, List, [], ◌∷◌, length, Bool, true, false, if◌then◌else◌, map, Option, Some, None, slice_get, refl, sym, ap, ◌∙◌, arith}
+use Rattle.std.proofs.Common.{◌≡◌, ℕ, zero, suc, ◌+◌, ◌-◌, ◌<◌, List, [], ◌∷◌, length, Bool, true, false, if◌then◌else◌, Option, Some, None, slice_get, refl, sym, ap, ◌∙◌, arith}
 use Rattle.std.specs.Prelude.{replicate}
 use Rattle.n2_parts.specs.declared.board.Board.{Board}
 use Rattle.n2_parts.specs.declared.stops.Act.{Act}
@@ -10,10 +10,9 @@ use Rattle.std.specs.List.{list_all, list_any}
 use Rattle.n2_elf.specs.declared.image.Image.{Image}
 use Rattle.n2_parts.specs.declared.stops.Stop.{Stop}
 use Rattle.n2_parts.specs.declared.stops.Act.TheVariants.{Retire}
-use Rattle.n2_front.specs.Front.{Front}
 use Rattle.n2_report.specs.Stops.{status_of, has_broken, is_refused}
 use Rattle.n2_flat.specs.PlainBoard.{plain_board}
-use Rattle.n2_flat.specs.State.{State, CoreState, front_of, machine_of}
+use Rattle.n2_flat.specs.State.{State, CoreState, machine_of}
 use Rattle.n2_flat.proofs.Whole.{stopped_act}
 use Rattle.n2_top.specs.Plain.{plain_start}
 
@@ -42,11 +41,6 @@ stopped_acts b map' s c n e found stops =
     let stop = known c.front.stop stops in
     same_acts b map' (machine_of s) (Retire 0) n
     (stopped_act map' s 0 c stop.0 found stop.1 ∙ ap (λ (x : Board). act x map' (machine_of s) (Retire 0)) e)
-
-pub one_stop : (cores : List CoreState) (c : CoreState) → length cores ≡ 1 → slice_get cores 0 ≡ Some c → (c.front.stop ∷ []) ≡ map (λ (f : Front). f.stop) (map front_of cores)
-one_stop [] c n e = absurd (cc)
-one_stop (d ∷ []) c n e = let same : d ≡ c = grind arith in ap (λ (x : CoreState). x.front.stop ∷ []) (sym same)
-one_stop (d ∷ f ∷ cores) c n e = absurd (omega arith)
 
 two_tests : (x y : Bool) → (if x then 0 else (if y then 1 else 2)) < 3
 two_tests true y = omega arith

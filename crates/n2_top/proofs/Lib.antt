@@ -2,3 +2,9 @@ pub mod Giving
 pub mod Acts
 pub mod Stepping
 pub mod Replaying
+pub mod Broken
+pub mod Ordered
+pub mod Carried
+pub mod Drawn
+pub mod Written
+pub mod Beside

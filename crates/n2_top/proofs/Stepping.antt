@@ -23,7 +23,8 @@ use Rattle.n2_top.specs.declared.answers.Answer.{Answer}
 use Rattle.n2_top.specs.Commands.{Step}
 use Rattle.n2_top.specs.Asked.{Asked, OrderRun}
 use Rattle.n2_top.specs.Answers.{answered, reply_to}
-use Rattle.n2_top.specs.Step.{asked_step, step_end, step_answer}
+use Rattle.n2_top.specs.Runs.{EndsAs, end_by}
+use Rattle.n2_top.specs.Step.{asked_step, step_answer}
 
 pub step_refused : {A : Type 0} (seen : A → Inputs × List ℕ) (files : Files) (board : List ℕ) (order : Order) (failure : Failure) → Gives seen (asked_run files board order) (Err failure) → Gives (λ (a : Answer). a) (reply_to (Step board order) files) (Err failure)
 unfolding asked_step
@@ -38,15 +39,11 @@ step_answered files board order inputs list a h e =
     (after_step (asked_run files board order) (inputs, list) (λ found. Ok (OrderRun found.0 order found.1)) (Ok (OrderRun inputs order list)) h refl)
     (ap (λ (x : Answer). Ok x) (sym e))
 
-pub record EndsAs (inputs : Inputs) (ran : Ran) (m : Machine) : Type 0 where
-  pub stands : RanStandsFor inputs.board inputs.layout ran m
-  pub count : length m.cores ≡ length inputs.board.core
-
-pub ends_as : (inputs : Inputs) (order : Order) (list : List ℕ) (now : State) (v after : Parts) (ran : Ran) → IsReady inputs → v.map ≡ inputs.layout → after.board ≡ inputs.board → after.map ≡ inputs.layout → now ≡ start_of order list → StandsFor after (run inputs.board v.map (start inputs.board inputs.images) (chosen_order inputs.board v.map (start inputs.board inputs.images) now)) → ((m : Machine) → StandsFor after m → length m.cores ≡ length after.board.core → RanStandsFor after.board after.map ran m) → EndsAs inputs ran (step_end inputs order list)
+pub ends_as : (inputs : Inputs) (order : Order) (list : List ℕ) (now : State) (v after : Parts) (ran : Ran) → IsReady inputs → v.map ≡ inputs.layout → after.board ≡ inputs.board → after.map ≡ inputs.layout → now ≡ start_of order list → StandsFor after (run inputs.board v.map (start inputs.board inputs.images) (chosen_order inputs.board v.map (start inputs.board inputs.images) now)) → ((m : Machine) → StandsFor after m → length m.cores ≡ length after.board.core → RanStandsFor after.board after.map ran m) → EndsAs inputs ran (end_by inputs order list)
 ends_as inputs order list now v after ran ready map after_board after_map state stands finish =
     let b = inputs.board in
     let s = start b inputs.images in
-    let end = step_end inputs order list in
+    let end = end_by inputs order list in
     let count : length end.cores ≡ length b.core = count_run b inputs.layout (chosen_order b inputs.layout s (start_of order list)) s (as_many b.core inputs.images ready.images) in
     let at_state : StandsFor after (run b v.map s (chosen_order b v.map s (start_of order list))) = subst (λ (o : State). StandsFor after (run b v.map s (chosen_order b v.map s o))) state stands in
     let at_map : StandsFor after end = subst (λ (g : AddressMap). StandsFor after (run b g s (chosen_order b g s (start_of order list)))) map at_state in

@@ -13,6 +13,10 @@ pub data Asked : Type 0 where
   OrderRun : (inputs : Inputs) (order : Order) (list : List ℕ) → Asked
   -- the run of a board that a journal tells
   JournalRun : (inputs : Inputs) (journal : Content) → Asked
+  -- a run of a board by the order of a seed, which leaves no journal
+  SeedRun : (inputs : Inputs) (seed : ℕ) → Asked
+  -- the flat machine along the run of a board that a journal tells
+  FlatRun : (inputs : Inputs) (journal : Content) → Asked
   -- the ELF file of an image
   File : (image : Image) → Asked
   -- the words of an image as text

@@ -1,7 +1,12 @@
 pub mod Commands
 pub mod Asked
-pub mod Plain
 pub mod Runs
+pub mod Flat
+pub mod Plain
 pub mod Step
+pub mod Bench
 pub mod Replay
 pub mod Answers
+pub mod Run
+pub mod Headline
+pub mod Written

@@ -4,9 +4,12 @@ ghost use Rattle.std.specs.Prelude.{◌≡◌, ◌≤◌, ◌<◌, [], map, stri
 ghost use Rattle.n2_outside.specs.Faults.{Rose};
 ghost use Rattle.n2_top.specs.Commands.{command_by, command_of, HasTurnsIn, reads_files, writes_journal};
 ghost use Rattle.n2_top.specs.Answers.{ForAnswer, OverFiles, reply_to, settled, is_final};
+ghost use Rattle.n2_top.specs.Written.{IsStepped};
 ghost use Rattle.n2_inputs.specs.Calls.{Gives, LeavesFolder};
 
+use crate::bench::answer_bench;
 use crate::command::{Command, command_in};
+use crate::flat::answer_flat;
 use crate::images::{answer_listing, answer_source};
 use crate::plain::answer_plain;
 use crate::replay::answer_replay;
@@ -33,6 +36,7 @@ fn answer_command<F: Folder>(
 ) -> Result<Answer, Failure>
     requires turns { HasTurnsIn command.now }
     ensures answer { OverFiles (F.files folder.old) (command_by command.now) (λ files. Gives (λ a. a) (reply_to (command_by command.now) files) result) }
+    ensures stepped { IfOk result (λ a. IsStepped (F.files folder.old) (command_by command.now) a) }
     ensures unread { reads_files (command_by command.now) ≡ false → folder.new ≡ folder.old }
     ensures folder { LeavesFolder (F.files folder.old) (F.files folder.new) (F.faults folder.old) (F.faults folder.new) result }
     ensures journal { IfOk result (λ a. writes_journal (command_by command.now) ≡ false → a.journal ≡ []) }
@@ -40,17 +44,18 @@ fn answer_command<F: Folder>(
 {
     match *command {
         Command::Faulty => Err(Failure::Refused(Refusal::Usage)),
-        Command::Unbuilt => Err(Failure::Refused(Refusal::UnbuiltCommand)),
         Command::Plain { file, steps } => answer_plain(alloc, file, steps, folder),
         Command::Step { board, order } => answer_step(alloc, board, &order, folder),
         Command::Replay { board, journal } => answer_replay(alloc, board, journal, folder),
+        Command::Flat { board, journal } => answer_flat(alloc, board, journal, folder),
         Command::Assemble { file, hal } => answer_source(alloc, file, hal, folder),
         Command::Disassemble { file } => answer_listing(alloc, file, folder),
+        Command::Bench { sections } => answer_bench(alloc, sections),
     }
 }
 
 /// The answer to a refusal: its status, and its row.
-fn refused(alloc: Global, refusal: &Refusal) -> Result<Answer, NoMemory>
+pub(crate) fn refused(alloc: Global, refusal: &Refusal) -> Result<Answer, NoMemory>
     ensures { IfOk result (λ a. a ≡ settled (Err refusal.now)) }
 {
     let mut row = Vec::new(alloc);
@@ -69,6 +74,7 @@ pub fn answer_words<F: Folder>(
     folder: &mut F,
 ) -> Result<Answer, NoAnswer>
     ensures answer { IfOk result (λ a. ForAnswer (F.files folder.old) (map string_bytes words.now) (λ answer. a ≡ answer)) }
+    ensures stepped { IfOk result (λ a. a.status < 3 → IsStepped (F.files folder.old) (command_of (map string_bytes words.now)) a) }
     ensures unread { reads_files (command_of (map string_bytes words.now)) ≡ false → folder.new ≡ folder.old }
     ensures files { F.files folder.new ≡ F.files folder.old }
     ensures later { F.faults folder.old ≤ F.faults folder.new }

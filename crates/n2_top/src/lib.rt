@@ -2,22 +2,32 @@
 #![tactic(auto)]
 
 mod answers;
+mod bench;
 mod command;
+mod flat;
 mod images;
+pub mod laws;
 mod plain;
 mod replay;
+mod run;
 mod runs;
 mod step;
 
-ghost use Rattle.std.specs.Prelude.{◌≡◌, ◌≢◌, ◌<◌, ◌≤◌, ◌⊎◌, [], Ok, Err, map, string_bytes, IsTrue, false};
+ghost use Rattle.std.specs.Prelude.{◌≡◌, ◌≢◌, ◌<◌, ◌≤◌, ◌⊎◌, ℕ, List, [], Some, Ok, Err, map, string_bytes, IsTrue, false};
 ghost use Rattle.n2_outside.specs.Faults.{Rose};
 ghost use Rattle.n2_outside.specs.Bytes.{appended, PutsPrefix};
-ghost use Rattle.n2_top.specs.Commands.{command_of, reads_files, writes_journal};
+ghost use Rattle.n2_outside.specs.Files.{Files};
+ghost use Rattle.n2_order.specs.Orders.{Asked as Order};
+ghost use Rattle.n2_inputs.specs.Asked.{asked_run};
+ghost use Rattle.n2_top.specs.Commands.{Step, command_of, reads_files, writes_journal};
 ghost use Rattle.n2_top.specs.Answers.{ForAnswer, read_fault, is_final};
+ghost use Rattle.n2_top.specs.Headline.{Headline};
+ghost use Rattle.n2_top.specs.Written.{board_of};
 
 use answers::{Answer, answer_words};
 use n2_inputs::NoAnswer;
 use n2_outside::{Folder, Sink, put_all};
+pub use run::run_top;
 use std::alloc::Global;
 
 /// Writes an answer: the journal's text, and then the report. The status is 7 where a put failed.
@@ -53,11 +63,11 @@ fn put_answer<S: Sink, L: Sink>(answer: &Answer, out: &mut S, journal: &mut L) -
 ///   finished run of the board, with the first row that differs.
 /// * 10: a source is absent, longer than 1 MiB, or has a faulty row.
 /// * 11: the order file is absent, longer than 4 MiB, or has a row that names no actor.
-/// * 12: what was asked for is not built yet.
 ///
 /// Over a folder that tells its files, or at a command that reads none, every status but 6, 7 and 8 is
 /// that of the answer to the words; `journal` grows by the answer's journal, and then `out` by its
-/// report. With 6 `out` grows by the row `read fault`. With 7 a prefix of a text was put, and nothing
+/// report. What `step` answers carries the sentence of `Headline`, of the board with its images and the run by
+/// its order. With 6 `out` grows by the row `read fault`. With 7 a prefix of a text was put, and nothing
 /// after it: where a put to `journal` failed, `out` is as it was. With 8 both are as they were. All
 /// texts are made before the first byte is put. A command that reads no file leaves the folder as it
 /// was, and one that is refused, or that makes no journal, leaves `journal` as it was.
@@ -70,6 +80,8 @@ pub fn tool_top<F: Folder, S: Sink, L: Sink>(
 ) -> u8
     ensures answered { ForAnswer (F.files folder.old) (map string_bytes words.now) (λ a. IsTrue (is_final result) →
         (result ≡ a.status) × (S.told out.new ≡ appended (S.told out.old) a.report) × (L.told journal.new ≡ appended (L.told journal.old) a.journal)) }
+    ensures headline { (files : Files) (board : List ℕ) (order : Order) → F.files folder.old ≡ Some files → command_of (map string_bytes words.now) ≡ Step board order → result < 3 →
+        Headline (board_of (asked_run files board order)) result (L.told journal.old) (L.told journal.new) (S.told out.old) (S.told out.new) }
     ensures complete { ForAnswer (F.files folder.old) (map string_bytes words.now) (λ a.
         ¬ Rose (F.faults folder.old) (F.faults folder.new) → ¬ Rose (S.faults out.old) (S.faults out.new) → ¬ Rose (L.faults journal.old) (L.faults journal.new)
         → (result ≡ 8) ⊎ (result ≡ a.status)) }

@@ -16,13 +16,12 @@ ghost use Rattle.n2_top.specs.Answers.{reply_to};
 ghost use Rattle.n2_inputs.specs.Calls.{Gives, LeavesFolder};
 
 use crate::answers::Answer;
+use crate::flat::answer_of;
 use n2_board::{Act, Layout};
 use n2_elf::Image;
 use n2_flat::{Flat, plain_board};
 use n2_inputs::{Failure, Role, fetch_file, image_in};
 use n2_outside::Folder;
-use n2_report::{flat_report, status};
-use n2_text::Items;
 use n2_word::NoMemory;
 use std::alloc::Global;
 use std::slice;
@@ -84,12 +83,7 @@ fn answer(alloc: Global, asked: &Fitting, steps: u32) -> Result<Answer, NoMemory
     let board = plain_board(alloc)?;
     let mut flat = Flat::open(alloc, &board, slice::from_ref(&asked.image), &asked.layout)?;
     run(&mut flat, &asked.layout, steps)?;
-    let report = flat_report(alloc, &board, &flat)?;
-    Ok(Answer {
-        status: status(&[flat.stop(CORE)]),
-        journal: Items::new(alloc),
-        report: Items::from_vec(report),
-    })
+    answer_of(alloc, &board, &flat)
 }
 
 /// The flat report of a file of the folder on the plain board, after so many acts.

@@ -9,8 +9,8 @@ ghost use Rattle.n2_top.specs.Asked.{JournalRun};
 ghost use Rattle.n2_top.specs.Answers.{answered, reply_to};
 
 use crate::answers::Answer;
-use crate::runs::{answer_report, open};
-use n2_inputs::{Failure, Inputs, Refusal, read_replay};
+use crate::runs::{answer_report, run_told};
+use n2_inputs::{Failure, Inputs, read_replay};
 use n2_journal::Journal;
 use n2_outside::Folder;
 use std::alloc::Global;
@@ -24,14 +24,8 @@ fn answer(alloc: Global, inputs: &Inputs, journal: &Journal) -> Result<Answer, F
     ensures journal { IfOk result (λ a. a.journal ≡ []) }
     ensures status { IfOk result (λ a. a.status < 3) }
 {
-    let mut machine = open(alloc, inputs)?;
-    match machine.replay(journal) {
-        Ok(()) => {
-            let ran = machine.finish();
-            Ok(answer_report(alloc, inputs, &ran)?)
-        }
-        Err(wrong) => Err(Failure::Refused(Refusal::JournalWrong(wrong.row))),
-    }
+    let ran = run_told(alloc, inputs, journal)?;
+    Ok(answer_report(alloc, inputs, &ran)?)
 }
 
 /// The report of the run of a board in a file that the journal in another file tells.

@@ -1,15 +1,21 @@
-//! What the run of a board answers.
+//! The run of a board, by an order or by a journal, and what it answers.
 
-ghost use Rattle.std.specs.Prelude.{◌≡◌, ◌<◌, [], length, IfOk, None};
+ghost use Rattle.std.specs.Prelude.{◌≡◌, ◌<◌, ◌≤◌, ◌+◌, [], All, length, IfOk, None};
 ghost use Rattle.n2_parts.specs.Valid.{IsValid};
+ghost use Rattle.n2_order.specs.Orders.{asked, HasTurns};
+ghost use Rattle.n2_order.specs.Choices as Choices;
 ghost use Rattle.n2_runs.specs.Machine.{Machine as Caching, start};
 ghost use Rattle.n2_runs.specs.Knows.{IsBookKept};
 ghost use Rattle.n2_smp.specs.Standing.{StandsFor, RanStandsFor};
 ghost use Rattle.n2_inputs.specs.Asked.{IsReady};
-ghost use Rattle.n2_top.specs.Runs.{run_answer, report_answer};
+ghost use Rattle.n2_inputs.specs.Calls.{ReadFails};
+ghost use Rattle.n2_top.specs.Runs.{EndsAs, Tells, end_by, run_answer, report_answer};
 
 use crate::answers::Answer;
-use n2_inputs::Inputs;
+use n2_driver::{run_by, who_is_over};
+use n2_inputs::{Failure, Inputs, Refusal};
+use n2_journal::Journal;
+use n2_order::{Chooser, Order};
 use n2_report::{run_report, run_status};
 use n2_smp::{Machine, Ran};
 use n2_text::Items;
@@ -27,6 +33,57 @@ pub fn open(alloc: Global, inputs: &Inputs) -> Result<Machine, NoMemory>
     match Machine::open(alloc, &inputs.board, inputs.images.as_slice()) {
         Ok(machine) => Ok(machine),
         Err(_) => Err(NoMemory),
+    }
+}
+
+/// A chooser of the actors of a board.
+fn chooser(inputs: &Inputs, order: &Order<'_>, list: Vec<u32>) -> Chooser
+    requires ready { IsReady inputs.now }
+    requires turns { HasTurns (asked order.now) }
+    requires actors { All (λ actor. actor ≤ length inputs.now.board.core) list.items }
+    ensures actors { result.actors ≡ length inputs.now.board.core + 1 }
+    ensures state { result.state ≡ Choices.start_of (asked order.now) list.items }
+{
+    n2_parts::laws::valid_boards();
+    Chooser::open(order, list, inputs.board.core.len() as u32 + 1)
+}
+
+/// What is left of the run of a board by an order, at its end.
+pub fn run_by_order(
+    alloc: Global,
+    inputs: &Inputs,
+    order: &Order<'_>,
+    list: Vec<u32>,
+) -> Result<Ran, NoMemory>
+    requires ready { IsReady inputs.now }
+    requires turns { HasTurns (asked order.now) }
+    requires actors { All (λ actor. actor ≤ length inputs.now.board.core) list.items }
+    ensures ends { IfOk result (λ ran. EndsAs inputs.now ran (end_by inputs.now (asked order.now) list.items)) }
+    ensures memories { IfOk result (λ ran. ran.bus.wiring.memories ≡ inputs.now.board.memory) }
+{
+    let mut chooser = chooser(inputs, order, list);
+    let mut machine = open(alloc, inputs)?;
+    let mut over = who_is_over(alloc, &inputs.board, &machine)?;
+    run_by(&mut machine, &inputs.board, &mut chooser, &mut over);
+    let ran = machine.finish();
+    Ok(ran)
+}
+
+/// What is left of the run of a board that a journal tells, at its end. A journal that is not that of a
+/// finished run is refused with its first row that differs.
+pub fn run_told(alloc: Global, inputs: &Inputs, journal: &Journal) -> Result<Ran, Failure>
+    requires ready { IsReady inputs.now }
+    ensures told { Tells inputs.now journal.now.content result }
+    ensures unread { ¬ ReadFails result }
+    ensures memories { IfOk result (λ ran. ran.bus.wiring.memories ≡ inputs.now.board.memory) }
+{
+    let mut machine = open(alloc, inputs)?;
+    match machine.replay(journal) {
+        Ok(()) => {
+            let ran = machine.finish();
+            Ok(ran)
+        }
+        Err(wrong) => Err(Failure::Refused(Refusal::JournalWrong(wrong.row))),
     }
 }
 

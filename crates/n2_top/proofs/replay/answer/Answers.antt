@@ -1,27 +1,23 @@
 use Rattle.std.proofs.Common.{Ok, ap, sym, ◌∙◌}
-use Rattle.n2_runs.specs.Machine.{start}
+use Rattle.std.proofs.lemmas.Result.{err_from_is_err_and}
+use Rattle.n2_runs.specs.Machine.{Machine}
 use Rattle.n2_top.specs.declared.answers.Answer.{Answer}
-use Rattle.n2_top.specs.Replay.{reported, replay_answer}
-use Rattle.n2_top.proofs.Replaying.{replay_ends, replay_differs, opened_kept}
+use Rattle.n2_top.specs.Runs.{report_answer}
+use Rattle.n2_top.specs.Replay.{replay_answer}
+use Rattle.n2_top.proofs.Replaying.{told_refused, told_answered}
 use Rattle.n2_top.proofs.replay.answer.Goals as goal
 
-pub returns-in_ok-answer_report-in-Ok-clause-answer : goal.returns-in_ok-answer_report-in-Ok-clause-answer
+pub returns-in_err-ran-clause-answer : goal.returns-in_err-ran-clause-answer
 unfolding replay_answer
-returns-in_ok-answer_report-in-Ok-clause-answer c =
+returns-in_err-ran-clause-answer c =
     let inputs = c.args.inputs.now in
-    let s = start inputs.board inputs.images in
-    let o = c.in_ok-machine.ensures in
-    let v = c.in_ok-machine.machine in
-    let end = replay_ends inputs c.args.journal.now.content v c.replay.new.self c.in-Ok.field-0 c.finish-ran.result o.board o.map c.in-Ok.ensures.board c.in-Ok.ensures.map
-    (c.in-Ok.ensures.replayed s o.stands (opened_kept inputs v s o.board o.map o.kept)) c.finish-ran.ensures in
-    ap (reported inputs) end.is ∙ ap (λ (a : Answer). Ok a) (sym (c.in_ok-answer_report-in-Ok.ensures.answer end.machine end.ends.stands end.ends.count))
+    let p = err_from_is_err_and c.from_residual.result c.from_residual.ensures.1 in
+    rw (p.1, p.2) (told_refused inputs c.args.journal.now.content _ (λ (m : Machine). Ok (report_answer inputs.board inputs.layout m)) c.in_err-ran.ensures.told)
 
-pub returns-in-Err-clause-answer : goal.returns-in-Err-clause-answer
+pub returns-clause-answer : goal.returns-clause-answer
 unfolding replay_answer
-returns-in-Err-clause-answer c =
+returns-clause-answer c =
     let inputs = c.args.inputs.now in
-    let s = start inputs.board inputs.images in
-    let o = c.in_ok-machine.ensures in
-    let v = c.in_ok-machine.machine in
-    replay_differs inputs c.args.journal.now.content v c.replay.new.self c.in-Err.wrong o.board o.map
-    (c.in-Err.ensures.replayed s o.stands (opened_kept inputs v s o.board o.map o.kept))
+    let told = c.in_ok-ran.ensures.told in
+    told_answered inputs c.args.journal.now.content c.in_ok-ran.ran (λ (m : Machine). Ok (report_answer inputs.board inputs.layout m)) told
+    ∙ ap (λ (a : Answer). Ok a) (sym (c.in_ok-answer_report.ensures.answer told.machine told.ends.stands told.ends.count))

@@ -1,9 +1,12 @@
-use Rattle.n2_top.proofs.Replaying.{replay_given, without_reading}
+use Rattle.std.proofs.Common.{refl}
+use Rattle.n2_top.specs.Commands.{Replay}
+use Rattle.n2_top.specs.Asked.{JournalRun}
+use Rattle.n2_top.proofs.Replaying.{told_given, without_reading}
 use Rattle.n2_top.proofs.replay.answer_replay.Goals as goal
 
 pub returns-clause-answer : goal.returns-clause-answer
 returns-clause-answer g c = λ files told.
-    replay_given files c.args.board.now c.args.journal.now c.in_ok-inputs.inputs c.in_ok-inputs.journal.content c.answer.result (c.in_ok-inputs.ensures.asked files told) c.answer.ensures.answer
+    told_given files c.args.board.now c.args.journal.now (Replay c.args.board.now c.args.journal.now) JournalRun c.in_ok-inputs.inputs c.in_ok-inputs.journal.content c.answer.result refl (c.in_ok-inputs.ensures.asked files told) c.answer.ensures.answer
 
 pub returns-clause-folder : goal.returns-clause-folder
 returns-clause-folder g c =

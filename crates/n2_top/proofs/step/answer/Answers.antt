@@ -1,43 +1,27 @@
-use Rattle.std.proofs.Common.{◌≡◌, ℕ, List, Bool, length, ap, sym, ◌∙◌, subst}
-use Rattle.n2_bus.specs.Wiring.{Wiring}
+use Rattle.std.proofs.Common.{◌≡◌}
 use Rattle.n2_order.specs.Orders.{asked}
-use Rattle.n2_runs.specs.Machine.{start}
-use Rattle.n2_runs.specs.Knows.{IsBookKept}
-use Rattle.n2_board.specs.AddressMap.{AddressMap}
-use Rattle.n2_runs.proofs.Begins.{as_many}
-use Rattle.n2_top.specs.declared.answers.Answer.{Answer}
-use Rattle.n2_top.specs.Runs.{run_answer}
-use Rattle.n2_top.specs.Step.{step_end, step_answer}
 use Rattle.n2_report.proofs.RunEnds.{if_ok}
-use Rattle.n2_top.proofs.Stepping.{EndsAs, ends_as}
+use Rattle.n2_top.specs.declared.answers.Answer.{Answer}
+use Rattle.n2_top.specs.Runs.{end_by}
+use Rattle.n2_top.specs.Step.{step_answer}
+use Rattle.n2_top.specs.Run.{IsRunOf}
+use Rattle.n2_top.proofs.Written.{run_stepped}
 use Rattle.n2_top.proofs.step.answer.Goals as goal
-
-pub answer_run-requires-clause-memories : goal.answer_run-requires-clause-memories
-answer_run-requires-clause-memories c =
-    let inputs = c.args.inputs.now in
-    let b = inputs.board in
-    let map = c.in_ok-machine.ensures.map in
-    let board = c.in_ok-machine.ensures.board in
-    let stands = c.in_ok-machine.ensures.stands in
-    let kept = subst (λ (g : AddressMap). IsBookKept b g (start b inputs.images)) (sym map) c.in_ok-machine.ensures.kept in
-    let over = c.deref_mut.ensures.value ∙ c.in_ok-over.ensures.over (start b inputs.images) stands (as_many b.core inputs.images c.requires.ready.images) in
-    let end : EndsAs inputs c.finish-ran.result (step_end inputs (asked c.args.order.now) c.args.list.items) =
-    ends_as inputs (asked c.args.order.now) c.args.list.items c.chooser-chooser.result.state c.in_ok-machine.machine c.run_by.new.machine c.finish-ran.result
-    c.requires.ready map (c.run_by.ensures.board ∙ board) (c.run_by.ensures.map ∙ map) c.chooser-chooser.ensures.state (c.run_by.ensures.stands (start b inputs.images) stands kept over) c.finish-ran.ensures in
-    ap (λ (w : Wiring). w.memories) end.stands.bus.wiring
 
 pub returns-clause-answer : goal.returns-clause-answer
 unfolding step_answer
 returns-clause-answer c =
     let inputs = c.args.inputs.now in
-    let b = inputs.board in
-    let map = c.in_ok-machine.ensures.map in
-    let board = c.in_ok-machine.ensures.board in
-    let stands = c.in_ok-machine.ensures.stands in
-    let kept = subst (λ (g : AddressMap). IsBookKept b g (start b inputs.images)) (sym map) c.in_ok-machine.ensures.kept in
-    let over = c.deref_mut.ensures.value ∙ c.in_ok-over.ensures.over (start b inputs.images) stands (as_many b.core inputs.images c.requires.ready.images) in
-    let end : EndsAs inputs c.finish-ran.result (step_end inputs (asked c.args.order.now) c.args.list.items) =
-    ends_as inputs (asked c.args.order.now) c.args.list.items c.chooser-chooser.result.state c.in_ok-machine.machine c.run_by.new.machine c.finish-ran.result
-    c.requires.ready map (c.run_by.ensures.board ∙ board) (c.run_by.ensures.map ∙ map) c.chooser-chooser.ensures.state (c.run_by.ensures.stands (start b inputs.images) stands kept over) c.finish-ran.ensures in
-    if_ok _ (λ (a : Answer). a ≡ step_answer inputs (asked c.args.order.now) c.args.list.items) c.answer_run.result
-    (λ a h. h (step_end inputs (asked c.args.order.now) c.args.list.items) end.stands end.count) c.answer_run.ensures.answer
+    let order = asked c.args.order.now in
+    let end = c.in_ok-ran.ensures.ends in
+    if_ok _ (λ (a : Answer). a ≡ step_answer inputs order c.args.list.items) c.answer_run.result
+    (λ a h. h (end_by inputs order c.args.list.items) end.stands end.count) c.answer_run.ensures.answer
+
+pub returns-clause-run : goal.returns-clause-run
+unfolding step_answer
+returns-clause-run c =
+    let inputs = c.args.inputs.now in
+    let order = asked c.args.order.now in
+    let end = c.in_ok-ran.ensures.ends in
+    if_ok _ (λ (a : Answer). IsRunOf inputs a) c.answer_run.result
+    (λ a h. run_stepped inputs order c.args.list.items c.in_ok-ran.ran a c.requires.ready end (h (end_by inputs order c.args.list.items) end.stands end.count)) c.answer_run.ensures.answer

@@ -1,7 +1,10 @@
-use Rattle.std.proofs.Common.{◌≡◌, ℕ, List, Vec, Global, Result, Ok, refl}
+use Rattle.std.proofs.Common.{◌≡◌, ℕ, List, Vec, Global, Result, Ok, refl, subst, sym}
 use Rattle.std.proofs.lemmas.Result.{err_from_is_err_and}
 use Rattle.n2_order.specs.Orders.{asked}
 use Rattle.n2_inputs.specs.declared.inputs.Inputs.{Inputs}
+use Rattle.n2_inputs.specs.declared.refusal.Refusal.{Refusal}
+use Rattle.n2_top.specs.Run.{Answers}
+use Rattle.n2_top.specs.Written.{board_of}
 use Rattle.n2_top.proofs.Stepping.{step_refused, step_answered, without_memory}
 use Rattle.n2_top.proofs.step.answer_step.Goals as goal
 
@@ -27,3 +30,7 @@ returns-in_err-answer-clause-folder g c =
 pub returns-clause-answer : goal.returns-clause-answer
 returns-clause-answer g c = λ files told.
     step_answered files c.args.board.now (asked c.args.order.now) c.in_ok-inputs.inputs c.in_ok-inputs.list.items c.in_ok-answer.field-0 (c.in_ok-inputs.ensures.asked files told) c.in_ok-answer.ensures.answer
+
+pub returns-clause-run : goal.returns-clause-run
+returns-clause-run g c = λ files told.
+    subst (λ (found : Result (Inputs × List ℕ) Refusal). Answers (board_of found) c.in_ok-answer.field-0) (sym (c.in_ok-inputs.ensures.asked files told)) c.in_ok-answer.ensures.run

@@ -3,6 +3,7 @@
 #![tactic(auto)]
 
 ghost use Rattle.std.specs.Prelude.{◌≡◌, ◌∷◌, [], ◌++◌, IfOk};
+ghost use Rattle.n2_hal.specs.Routines.{routines_text};
 
 use n2_text::put_text;
 use n2_word::NoMemory;
@@ -10,7 +11,7 @@ use std::alloc::Global;
 
 /// The source of all routines. Arguments are in r4 and r5, the result in r2; they use r2 to r15 and
 /// r31, and no memory of their own.
-pub const ROUTINES: &str = "\
+const ROUTINES: &str = "\
 .align 4
 alt_dcache_flush:
     beq r5, r0, hal_2
@@ -133,7 +134,7 @@ hal_8:
 
 /// The source of all routines.
 pub fn routines() -> &'static str
-    ensures { result.now ≡ ROUTINES.now }
+    ensures { result.now ≡ routines_text }
 {
     ROUTINES
 }
@@ -141,7 +142,7 @@ pub fn routines() -> &'static str
 /// A source with the routines behind it: the source, a line feed, and the routines. NoMemory is the
 /// only error.
 pub fn with_hal(alloc: Global, source: &[u8]) -> Result<Vec<u8>, NoMemory>
-    ensures { IfOk result (λ text. text.items ≡ source.now ++ (10 ∷ []) ++ ROUTINES.now) }
+    ensures { IfOk result (λ text. text.items ≡ source.now ++ (10 ∷ []) ++ routines_text) }
 {
     let mut text = Vec::new(alloc);
     put_text(&mut text, source)?;

@@ -2,7 +2,7 @@
 use Rattle.std.specs.Prelude.{ℕ, List, [], ◌∷◌, ◌++◌, Bool, Result, Ok, Err, if◌then◌else◌}
 use Rattle.n2_outside.specs.Files.{Files, file_at}
 use Rattle.n2_elf.specs.declared.image.Image.{Image}
-use Rattle.n2_hal.specs.declared.TheConstants.{ROUTINES}
+use Rattle.n2_hal.specs.Routines.{routines_text}
 use Rattle.n2_asm.specs.declared.faults.AsmFault.{AsmFault}
 use Rattle.n2_asm.specs.declared.faults.AsmFault.TheVariants as faults
 use Rattle.n2_asm.specs.Sources.{Assembled, assembled}
@@ -14,7 +14,7 @@ use Rattle.n2_inputs.specs.Boards.{image_of, image_in}
 
 -- a source with the routines of the HAL behind it, where they are asked for
 abbrev pub source_with : Bool → List ℕ → List ℕ
-source_with hal source = if hal then source ++ (10 ∷ []) ++ ROUTINES.now else source
+source_with hal source = if hal then source ++ (10 ∷ []) ++ routines_text else source
 
 -- the image of a source without a faulty row; to assemble never wants memory
 abbrev pub assembled_image : Result Assembled AsmFault → Result Image Refusal

@@ -6,7 +6,7 @@ use Rattle.rand_pcg.specs.Lcg.{Lcg}
 use Rattle.rand_pcg.specs.Pcg.{pcg32, pcg32_of_seed}
 use Rattle.n2_text.specs.Fields.{word_text}
 use Rattle.n2_order.specs.Choices.{words_of}
-use Rattle.n2_hal.specs.declared.TheConstants.{ROUTINES}
+use Rattle.n2_hal.specs.Routines.{routines_text}
 use Rattle.n2_make.specs.Boards.{program_at, mutex_at, region_at}
 
 -- the mutex of a word
@@ -60,7 +60,7 @@ source_of k words = with_word (codes ".text 0x") (program_at k) (codes "\n") ++ 
 
 -- a source with the routines behind it
 abbrev pub program_of : List ℕ → List ℕ
-program_of source = source ++ (10 ∷ []) ++ ROUTINES.now
+program_of source = source ++ (10 ∷ []) ++ routines_text
 
 -- a generator behind n words
 abbrev pub behind : ℕ → Lcg → Lcg

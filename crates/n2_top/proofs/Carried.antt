@@ -36,10 +36,11 @@ use Rattle.n2_inputs.specs.declared.refusal.Refusal.TheVariants as refusals
 use Rattle.n2_inputs.specs.Refusals.{role_status, status_of}
 use Rattle.n2_inputs.specs.Asked.{IsReady}
 use Rattle.n2_top.specs.declared.answers.Answer.{Answer}
+use Rattle.n2_top.specs.Machines.{caching, without_caches}
 use Rattle.n2_top.specs.Answers.{is_final}
 use Rattle.n2_top.specs.Runs.{run_answer}
-use Rattle.n2_top.specs.Run.{caching, IsRunOf, Answers, IsStatusFor}
-use Rattle.n2_top.specs.Headline.{without_caches, Agreeing, next_act, IsOwnTurn, IsRefusedWhereBroken, Headline}
+use Rattle.n2_top.specs.Run.{IsRunOf, Answers, IsStatusFor}
+use Rattle.n2_top.specs.Headline.{Agreeing, next_act, IsOwnTurn, IsRefusedWhereBroken, Headline}
 use Rattle.n2_top.proofs.Ordered.{one_more, turn_is_own, other_core, refused_is}
 
 -- ---- statuses

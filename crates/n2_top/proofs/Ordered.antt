@@ -22,7 +22,8 @@ use Rattle.n2_runs.proofs.Steps.{IsActOf}
 use Rattle.n2_runs.proofs.Views.{quiet_act, quiet_act_by, turn_cases}
 use Rattle.n2_report.specs.Stops.{is_refused}
 use Rattle.n2_inputs.specs.declared.inputs.Inputs.{Inputs}
-use Rattle.n2_top.specs.Headline.{without_caches, next_act, IsOwn, broken}
+use Rattle.n2_top.specs.Machines.{without_caches}
+use Rattle.n2_top.specs.Headline.{next_act, IsOwn, broken}
 use Rattle.n2_top.proofs.Broken.{never_some, neither, retired_is}
 
 -- ---- acts, one after another

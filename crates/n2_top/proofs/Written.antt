@@ -37,8 +37,8 @@ use Rattle.n2_inputs.specs.Journals.{asked_journal, journal_in}
 use Rattle.n2_inputs.specs.Asked.{fitted, asked_run, asked_replay, IsReady}
 use Rattle.n2_inputs.proofs.Steps.{after_step}
 use Rattle.n2_top.specs.declared.answers.Answer.{Answer}
-use Rattle.n2_top.specs.Run.{caching, IsRunOf}
-use Rattle.n2_top.specs.Headline.{without_caches}
+use Rattle.n2_top.specs.Machines.{caching, without_caches}
+use Rattle.n2_top.specs.Run.{IsRunOf}
 use Rattle.n2_top.specs.Runs.{EndsAs, picked, end_by, or_wrong, run_answer, report_answer}
 use Rattle.n2_top.specs.Step.{step_answer}
 use Rattle.n2_top.specs.Replay.{replay_answer}

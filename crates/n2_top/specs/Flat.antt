@@ -3,8 +3,7 @@ use Rattle.std.specs.Prelude.{[], map, Result, Ok}
 use Rattle.n2_parts.specs.declared.board.Board.{Board}
 use Rattle.n2_journal.specs.Journals.{Content}
 use Rattle.n2_front.specs.Front.{Front}
-use Rattle.n2_runs.specs.Machine.{start, acts}
-use Rattle.n2_runs.specs.FlatRun.{Flat, flat_start, flat}
+use Rattle.n2_runs.specs.FlatRun.{Flat}
 use Rattle.n2_runs.specs.Recorded.{actors_of}
 use Rattle.n2_report.specs.Stops.{status_of}
 use Rattle.n2_report.specs.OfFlat.{flat_report}
@@ -12,17 +11,13 @@ use Rattle.n2_inputs.specs.declared.inputs.Inputs.{Inputs}
 use Rattle.n2_inputs.specs.declared.refusal.Refusal.{Refusal}
 use Rattle.n2_inputs.specs.Files.{◌>>=◌}
 use Rattle.n2_top.specs.declared.answers.Answer.{Answer}
+use Rattle.n2_top.specs.Machines.{without_caches}
 use Rattle.n2_top.specs.Runs.{told_end}
 
 -- a status by the stops of a flat machine's cores, and its flat report
 abbrev pub flat_answer : Board → Flat → Answer
 flat_answer b m = record { status = status_of (map (λ (f : Front). f.stop) m.cores); journal = []; report = flat_report b m }
 
--- the flat machine after the acts of the run along a journal's order
-abbrev pub flat_end : Inputs → Content → Flat
-flat_end inputs journal =
-    flat inputs.board inputs.layout (flat_start inputs.board inputs.images) (acts inputs.board inputs.layout (start inputs.board inputs.images) (actors_of journal))
-
--- it is reported where the journal is that of a finished run
+-- that of the flat machine along a journal's order, where the journal is that of a finished run
 unfoldable pub flat_run_answer : Inputs → Content → Result Answer Refusal
-flat_run_answer inputs journal = told_end inputs journal >>= λ _. Ok (flat_answer inputs.board (flat_end inputs journal))
+flat_run_answer inputs journal = told_end inputs journal >>= λ _. Ok (flat_answer inputs.board (without_caches inputs (actors_of journal)))

@@ -26,8 +26,7 @@ use Rattle.n2_watch.specs.World.{World}
 use Rattle.n2_front.specs.Front.{Front, with_regs}
 use Rattle.n2_front.specs.Tasks.{Task, task_of, task_breach, task_address, stop_for}
 use Rattle.n2_front.specs.Retire.{who}
-use Rattle.n2_runs.specs.Machine.{start, turn, acts}
-use Rattle.n2_runs.specs.FlatRun.{Flat, flat_start, flat}
+use Rattle.n2_runs.specs.Machine.{start, turn}
 use Rattle.n2_runs.specs.Agree.{Agree}
 use Rattle.n2_runs.specs.Along.{after}
 use Rattle.n2_runs.specs.Recorded.{Records, actors_of}
@@ -39,14 +38,9 @@ use Rattle.n2_outside.specs.Bytes.{appended}
 use Rattle.n2_inputs.specs.declared.inputs.Inputs.{Inputs}
 use Rattle.n2_inputs.specs.declared.refusal.Refusal.{Refusal}
 use Rattle.n2_inputs.specs.Asked.{IsReady}
-use Rattle.n2_top.specs.Run.{caching}
+use Rattle.n2_top.specs.Machines.{caching, without_caches}
 
 -- ---- the flat machine beside the machine with caches, along an order of turns
-
--- one flat memory without caches, after the acts of the turns of some actors
-abbrev pub without_caches : Inputs → List ℕ → Flat
-without_caches inputs order =
-    flat inputs.board inputs.layout (flat_start inputs.board inputs.images) (acts inputs.board inputs.layout (start inputs.board inputs.images) order)
 
 abbrev pub Agreeing : Inputs → List ℕ → Type 0
 Agreeing inputs order =

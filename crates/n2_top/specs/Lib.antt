@@ -1,3 +1,4 @@
+pub mod Machines
 pub mod Commands
 pub mod Asked
 pub mod Runs

@@ -3,7 +3,7 @@ use Rattle.std.specs.Prelude.{◌≡◌, ℕ, ◌<◌, List, [], ◌∷◌, Opti
 use Rattle.std.specs.Str.{bytes_eq}
 use Rattle.n2_outside.specs.Files.{Files}
 use Rattle.n2_journal.specs.Journals.{Content, IsWithinLimits}
-use Rattle.n2_runs.specs.Machine.{Machine, start, run}
+use Rattle.n2_runs.specs.Machine.{start}
 use Rattle.n2_runs.specs.Recorded.{Records, actors_of}
 use Rattle.n2_inputs.specs.declared.inputs.Inputs.{Inputs}
 use Rattle.n2_inputs.specs.declared.refusal.Refusal.{Refusal}
@@ -11,6 +11,7 @@ use Rattle.n2_inputs.specs.declared.refusal.Refusal.TheVariants.{RunUsage}
 use Rattle.n2_inputs.specs.Refusals.{status_of}
 use Rattle.n2_inputs.specs.Asked.{asked_inputs, IsReady}
 use Rattle.n2_top.specs.declared.answers.Answer.{Answer}
+use Rattle.n2_top.specs.Machines.{caching}
 use Rattle.n2_top.specs.Runs.{run_answer}
 use Rattle.n2_top.specs.Answers.{settled}
 
@@ -31,10 +32,6 @@ asked_by (Some board) files = asked_inputs files board
 -- what holds over the files that a folder tells; over all files, where no board is named
 abbrev pub OverNamed : Option Files → Option (List ℕ) → (Files → Type 0) → Type 0
 OverNamed told named P = (files : Files) → (told ≡ Some files) ⊎ (named ≡ None) → P files
-
--- the machine with caches after the turns of some actors
-abbrev pub caching : Inputs → List ℕ → Machine
-caching inputs order = run inputs.board inputs.layout (start inputs.board inputs.images) order
 
 -- the journal and the report of a finished run, whichever order the threads drew
 pub record IsRunOf (inputs : Inputs) (a : Answer) : Type 0 where

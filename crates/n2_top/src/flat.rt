@@ -11,10 +11,11 @@ ghost use Rattle.n2_flat.specs.State.{IsWhole, machine_of};
 ghost use Rattle.n2_report.specs.OfFlat.{IsOf};
 ghost use Rattle.n2_inputs.specs.Asked.{IsReady};
 ghost use Rattle.n2_inputs.specs.Calls.{Gives, LeavesFolder, ReadFails};
+ghost use Rattle.n2_top.specs.Machines.{without_caches};
 ghost use Rattle.n2_top.specs.Commands.{Flat as FlatOf};
 ghost use Rattle.n2_top.specs.Asked.{FlatRun};
 ghost use Rattle.n2_top.specs.Answers.{answered, reply_to};
-ghost use Rattle.n2_top.specs.Flat.{flat_answer, flat_end};
+ghost use Rattle.n2_top.specs.Flat.{flat_answer};
 
 use crate::answers::Answer;
 use crate::runs::{open, run_told};
@@ -96,7 +97,7 @@ fn run_flat(
 fn flat_of(alloc: Global, inputs: &Inputs, journal: &Journal) -> Result<Flat, NoMemory>
     requires ready { IsReady inputs.now }
     requires counts { HasCounts (length inputs.now.board.core) journal.now.content }
-    ensures flat { IfOk result (λ flat. machine_of flat ≡ flat_end inputs.now journal.now.content) }
+    ensures flat { IfOk result (λ flat. machine_of flat ≡ without_caches inputs.now (actors_of journal.now.content)) }
     ensures whole { IfOk result (λ flat. IsOf inputs.now.board flat) }
 {
     let mut flat = open_flat(alloc, inputs)?;

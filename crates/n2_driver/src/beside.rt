@@ -1,13 +1,13 @@
-//! A run that a journal tells, with the flat machine beside it.
+//! Turns with the flat machine beside the caching machine, and the run that a journal tells.
 
-ghost use Rattle.std.specs.Prelude.{◌≡◌, ℕ, ◌≤◌, ◌++◌, ◌∷◌, [], List, length, replicate, All, OnOk};
+ghost use Rattle.std.specs.Prelude.{◌≡◌, ℕ, ◌≤◌, ◌++◌, ◌∷◌, [], List, length, replicate, All, IfOk, OnOk};
 ghost use Rattle.n2_memory.specs.Memories.{Contents};
-ghost use Rattle.n2_runs.specs.Machine.{Machine as Caching, run, acts};
+ghost use Rattle.n2_runs.specs.Machine.{Machine as Caching, turn, is_over, run, acts};
 ghost use Rattle.n2_runs.specs.FlatRun.{Flat as FlatValue, flat as flat_after};
 ghost use Rattle.n2_runs.specs.Along.{IsAlong};
 ghost use Rattle.n2_runs.specs.Knows.{IsBookKept};
 ghost use Rattle.n2_runs.specs.Recorded.{actors_in, actors_of, HasCounts};
-ghost use Rattle.n2_smp.specs.Standing.{StandsFor};
+ghost use Rattle.n2_smp.specs.Standing.{StandsFor, answer_of};
 ghost use Rattle.n2_smp.specs.Replayed.{Stands};
 ghost use Rattle.n2_flat.specs.State.{IsWhole, machine_of};
 ghost use Rattle.n2_driver.specs.Beside.{AreBeside, AreUnderway};
@@ -19,15 +19,17 @@ use n2_smp::{Machine, Turned};
 use n2_word::NoMemory;
 use std::alloc::Global;
 
-/// A turn of an actor, and its act on the flat machine.
-fn turn_beside(
+/// A turn of an actor, and its act on the flat machine. Answers what the turn came to. The turn itself
+/// takes no memory; its act may, for the flat machine's past events, and is not made after want of memory.
+pub fn turn_beside(
     machine: &mut Machine,
     flat: &mut Flat,
     layout: &Layout,
     actor: u32,
-) -> Result<(), NoMemory>
+) -> Result<Turned, NoMemory>
     requires beside { AreBeside machine.old layout.now flat.old }
     requires actor { actor ≤ length machine.old.board.core }
+    ensures answer { IfOk result (λ turned. (m : Caching) → StandsFor machine.old m → IsBookKept machine.old.board machine.old.map m → turned ≡ answer_of (is_over machine.old.board m actor) (turn machine.old.board machine.old.map m actor).act) }
     ensures underway { OnOk result ((end : Caching) (flat_end : FlatValue) (left : List ℕ) → AreUnderway end flat_end machine.old (machine_of flat.old) (actor ∷ left) → AreUnderway end flat_end machine.new (machine_of flat.new) left) }
     ensures beside { AreBeside machine.new layout.now flat.new }
     ensures board { machine.new.board ≡ machine.old.board }
@@ -35,9 +37,12 @@ fn turn_beside(
     ensures flat_board { flat.new.board ≡ flat.old.board }
 {
     match machine.turn(actor) {
-        Turned::Acted(act) => flat.act(layout, &act),
-        Turned::Local => Ok(()),
-        Turned::Over => Ok(()),
+        Turned::Acted(act) => {
+            flat.act(layout, &act)?;
+            Ok(Turned::Acted(act))
+        }
+        Turned::Local => Ok(Turned::Local),
+        Turned::Over => Ok(Turned::Over),
     }
 }
 

@@ -1,5 +1,4 @@
 use Rattle.std.proofs.Common.{refl, sym, ◌∙◌}
-use Rattle.std.proofs.lemmas.Result.{on_ok_weaker}
 use Rattle.n2_runs.specs.Machine.{turn, is_over}
 use Rattle.n2_driver.proofs.Together.{local_is, over_has_none, next_beside, beside_after, act_there, acted_after, none_after}
 use Rattle.n2_driver.proofs.beside.turn_beside.Goals as goal
@@ -9,16 +8,18 @@ act-requires-clause-there c =
     let h = c.requires.beside in
     act_there _ c.args.layout.now _ c.args.actor c.in-Acted.act h (sym c.in-Acted.is ∙ c.turn.ensures.answer h.state h.stands.0 h.stands.1)
 
-pub returns-in-Acted-clause-underway : goal.returns-in-Acted-clause-underway
-returns-in-Acted-clause-underway c =
-    on_ok_weaker c.act.result
-    (λ done end flat_end left u.
-    next_beside end flat_end c.args.machine.now c.turn.new.self _ _ c.args.actor left u c.turn.ensures.board c.turn.ensures.map (c.turn.ensures.stands u.state u.stands.0 u.stands.1) (c.turn.ensures.kept u.state u.stands.1)
-    (acted_after c.args.machine.now c.args.layout.now c.args.flat.now u.state _ c.args.actor c.in-Acted.act c.requires.beside (sym c.in-Acted.is ∙ c.turn.ensures.answer u.state u.stands.0 u.stands.1) done))
-    c.act.ensures.done
+pub returns-in_err-act-in-Acted-clause-beside : goal.returns-in_err-act-in-Acted-clause-beside
+returns-in_err-act-in-Acted-clause-beside c =
+    let h = c.requires.beside in
+    beside_after c.args.machine.now c.turn.new.self c.args.layout.now c.args.flat.now c.act.new.self c.args.actor h c.turn.ensures.board c.turn.ensures.map c.act.ensures.board c.act.ensures.whole (c.turn.ensures.stands h.state h.stands.0 h.stands.1) (c.turn.ensures.kept h.state h.stands.1)
 
-pub returns-in-Acted-clause-beside : goal.returns-in-Acted-clause-beside
-returns-in-Acted-clause-beside c =
+pub returns-in_ok-act-in-Acted-clause-underway : goal.returns-in_ok-act-in-Acted-clause-underway
+returns-in_ok-act-in-Acted-clause-underway c = λ end flat_end left u.
+    next_beside end flat_end c.args.machine.now c.turn.new.self _ _ c.args.actor left u c.turn.ensures.board c.turn.ensures.map (c.turn.ensures.stands u.state u.stands.0 u.stands.1) (c.turn.ensures.kept u.state u.stands.1)
+    (acted_after c.args.machine.now c.args.layout.now c.args.flat.now u.state _ c.args.actor c.in-Acted.act c.requires.beside (sym c.in-Acted.is ∙ c.turn.ensures.answer u.state u.stands.0 u.stands.1) c.in_ok-act-in-Acted.ensures.done)
+
+pub returns-in_ok-act-in-Acted-clause-beside : goal.returns-in_ok-act-in-Acted-clause-beside
+returns-in_ok-act-in-Acted-clause-beside c =
     let h = c.requires.beside in
     beside_after c.args.machine.now c.turn.new.self c.args.layout.now c.args.flat.now c.act.new.self c.args.actor h c.turn.ensures.board c.turn.ensures.map c.act.ensures.board c.act.ensures.whole (c.turn.ensures.stands h.state h.stands.0 h.stands.1) (c.turn.ensures.kept h.state h.stands.1)
 

@@ -1,10 +1,15 @@
 //! The program `n2_rates`: `n2_rates KIND N` makes N transfers, judgements or notes of one kind on a small
-//! board, and prints the kind, N and the sum of all numbers that were replied, or what was refused.
-//! `n2_rates all N` does so for each kind, each on a bus or a watch of its own. `bench/rates.py` times it.
+//! board, and prints the kind, N and the sum of all numbers that were replied, or what was refused; or it
+//! makes a journal of N entries, its text, and the journal of that text, and prints how much that is.
+//! `n2_rates all N` does so for each kind, each on a bus, a watch or a journal of its own. `bench/rates.py`
+//! times it.
 #![tactic(auto)]
 
+mod journals;
 mod watches;
 
+use crate::journals::Made;
+use crate::watches::Work;
 use n2_board::Layout;
 use n2_bus::{Bus, Reply, Request};
 use n2_elf::Image;
@@ -19,7 +24,7 @@ const CORE: u32 = 0;
 
 const DEVICES: u32 = 1;
 
-const KINDS: [&str; 16] = [
+const KINDS: [&str; 22] = [
     "fill",
     "back",
     "read",
@@ -36,6 +41,12 @@ const KINDS: [&str; 16] = [
     "note1",
     "note1000",
     "note100000",
+    "pass1",
+    "pass1000",
+    "pass100000",
+    "entries",
+    "writetext",
+    "readtext",
 ];
 
 /// Who makes the transfers of a kind, and the request.
@@ -104,16 +115,22 @@ fn transfers(bus: &mut Bus, actor: u32, request: &Request, n: u32) -> Option<u32
     Some(sum)
 }
 
-/// What the judgements or notes of a kind refuse on a new watch, or the sum of what its transfers are
-/// replied on a new bus.
+/// What the judgements or notes of a kind refuse on a new watch, how much a new journal is, or the sum of
+/// what its transfers are replied on a new bus.
 fn sum_of_kind(alloc: Global, kind: &str, n: u32) -> Option<u32> {
     match kind {
-        "judge1" => watches::refused(alloc, 1, true, n),
-        "judge1000" => watches::refused(alloc, 1_000, true, n),
-        "judge100000" => watches::refused(alloc, 100_000, true, n),
-        "note1" => watches::refused(alloc, 1, false, n),
-        "note1000" => watches::refused(alloc, 1_000, false, n),
-        "note100000" => watches::refused(alloc, 100_000, false, n),
+        "judge1" => watches::refused(alloc, 1, Work::Judgements, n),
+        "judge1000" => watches::refused(alloc, 1_000, Work::Judgements, n),
+        "judge100000" => watches::refused(alloc, 100_000, Work::Judgements, n),
+        "note1" => watches::refused(alloc, 1, Work::Notes, n),
+        "note1000" => watches::refused(alloc, 1_000, Work::Notes, n),
+        "note100000" => watches::refused(alloc, 100_000, Work::Notes, n),
+        "pass1" => watches::refused(alloc, 1, Work::Both, n),
+        "pass1000" => watches::refused(alloc, 1_000, Work::Both, n),
+        "pass100000" => watches::refused(alloc, 100_000, Work::Both, n),
+        "entries" => journals::size_of(alloc, Made::Entries, n),
+        "writetext" => journals::size_of(alloc, Made::Text, n),
+        "readtext" => journals::size_of(alloc, Made::Read, n),
         _ => sum_of_transfers(alloc, kind, n),
     }
 }

@@ -9,13 +9,23 @@ ghost use Rattle.n2_watch.specs.Watched.{IsGuardOf, IsMapOf};
 use n2_board::{Board, Layout};
 use n2_elf::Image;
 use n2_insn::DataOp;
-use n2_watch::{Access, Done, Watch};
+use n2_watch::{Access, Done, Judged, Watch};
+use n2_word::Width;
 use std::alloc::Global;
 
 /// The first line of the core's own, and up to how many of them are touched.
 const FIRST: u32 = 0x800;
 
 const MOST: u32 = 100_000;
+
+/// What is made of loads and stores of lines.
+#[derive(Clone, Copy)]
+pub enum Work {
+    Judgements,
+    Notes,
+    /// A judgement and a note of each, as a core makes them of one that hits its cache.
+    Both,
+}
 
 /// A core whose own are all lines of a memory of 4 MiB but the first 2,048.
 fn board_text() -> &'static [u8] {
@@ -86,6 +96,27 @@ fn judge_lines(watch: &Watch, layout: &Layout, lines: u32, n: u32) -> u32
     refused
 }
 
+/// Judges N loads and stores of so many lines, one line after another, and notes each that passes: how many
+/// are refused.
+fn pass_lines(watch: &mut Watch, layout: &Layout, lines: u32, n: u32) -> u32
+    requires most { lines ≤ 100000 }
+    requires some { 0 < lines }
+    requires clock { watch.old.table.clock + n < 2 ^ 64 }
+{
+    let mut refused = 0u32;
+    let mut at = 0;
+    'accesses: for i in 0..n {
+        let line = FIRST + at;
+        let store = i % 2 == 0;
+        match watch.judge_cached(layout, line * 32, Width::Word, store) {
+            Judged::Passed(place) => watch.note_touched_at(place, line, store),
+            _ => refused = refused.wrapping_add(1),
+        }
+        at = next_of(at, lines);
+    }
+    refused
+}
+
 /// The line for which an `initd` of the first line is refused, or 0.
 fn unflushed(watch: &Watch, layout: &Layout) -> u32 {
     let access = Access::Op {
@@ -98,14 +129,13 @@ fn unflushed(watch: &Watch, layout: &Layout) -> u32 {
     }
 }
 
-/// The watch of core 0 of a board that has it, after so many notes of so many lines, and then N
-/// judgements or N notes of them.
+/// What comes of N judgements or notes of so many lines by the watch of core 0 of a board that has it.
 fn watched(
     alloc: Global,
     board: &Board,
     layout: &Layout,
     lines: u32,
-    judges: bool,
+    work: Work,
     n: u32,
 ) -> Option<u32>
     requires core { 0 < length board.now.core }
@@ -116,18 +146,22 @@ fn watched(
     let Ok(mut watch) = Watch::open(alloc, 0, board, layout) else {
         return None;
     };
-    if judges {
-        note_lines(&mut watch, layout, lines, lines);
-        Some(judge_lines(&watch, layout, lines, n))
-    } else {
-        note_lines(&mut watch, layout, lines, n);
-        Some(unflushed(&watch, layout))
+    match work {
+        Work::Judgements => {
+            note_lines(&mut watch, layout, lines, lines);
+            Some(judge_lines(&watch, layout, lines, n))
+        }
+        Work::Notes => {
+            note_lines(&mut watch, layout, lines, n);
+            Some(unflushed(&watch, layout))
+        }
+        Work::Both => Some(pass_lines(&mut watch, layout, lines, n)),
     }
 }
 
-/// How many of N judgements of stores to so many lines that were touched are refused, or for which
-/// line an `initd` is refused after N notes of them.
-pub fn refused(alloc: Global, lines: u32, judges: bool, n: u32) -> Option<u32> {
+/// How many of N judgements of stores to so many lines that were touched are refused, or of N loads and
+/// stores; or for which line an `initd` is refused after N notes of them.
+pub fn refused(alloc: Global, lines: u32, work: Work, n: u32) -> Option<u32> {
     if lines == 0 || lines > MOST {
         return None;
     }
@@ -139,5 +173,5 @@ pub fn refused(alloc: Global, lines: u32, judges: bool, n: u32) -> Option<u32> {
         return None;
     }
     let layout = layout_of(alloc, &board, &images)?;
-    watched(alloc, &board, &layout, lines, judges, n)
+    watched(alloc, &board, &layout, lines, work, n)
 }

@@ -30,7 +30,7 @@ pub enum Aim {
     Interrupt,
     Stop(Stop),
     FillCode(u32),
-    Do(Asked, usize),
+    Do(Asked, u32),
 }
 
 /// What an instruction's word is about, with the registers as it leaves them.

@@ -116,6 +116,7 @@ impl Core {
     }
 
     /// How many turns it made since its last transfer.
+    #[inline(always)]
     pub fn since_transfer(&self) -> u64
         ensures { result ≡ self.now.clock.local }
     {
@@ -123,6 +124,7 @@ impl Core {
     }
 
     /// Why it stopped; None exactly where it runs.
+    #[inline(always)]
     pub fn stop(&self) -> Option<Stop>
         ensures { result ≡ self.now.stop }
     {

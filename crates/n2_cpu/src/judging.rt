@@ -81,7 +81,7 @@ fn judge_cached(
     store: bool,
     pc: u32,
     word: u32,
-) -> Result<usize, Stop>
+) -> Result<u32, Stop>
     ensures { (b : BoardValue) (book : Book) (core : ℕ) (past : List PastEvent) → StandsFor b layout.now core watch.now book past → stop_in result ≡ option_map (λ why. stop_for why pc word address) (rules.breach b layout.now (knowledge b book core past) (accesses.Cached address store) width) }
 {
     match watch.judge_cached(layout, address, width, store) {
@@ -93,6 +93,7 @@ fn judge_cached(
 
 /// How an access that does not go through the cache stops the core, if it breaks the discipline.
 /// `strays` says whether it does.
+#[inline(never)]
 fn judge(
     watch: &Watch,
     layout: &Layout,
@@ -101,7 +102,7 @@ fn judge(
     address: u32,
     pc: u32,
     word: u32,
-) -> Result<usize, Stop>
+) -> Result<u32, Stop>
     requires { address ≡ address_of access.now }
     ensures { (b : BoardValue) (book : Book) (core : ℕ) (past : List PastEvent) (width : WidthValue) → StandsFor b layout.now core watch.now book past → strays ≡ is_stray (rules.breach b layout.now (knowledge b book core past) access.now width) → stop_in result ≡ option_map (λ why. stop_for why pc word (address_of access.now)) (rules.breach b layout.now (knowledge b book core past) access.now width) }
 {
@@ -115,6 +116,7 @@ fn judge(
 }
 
 /// How a load or store past the cache stops the core, if it breaks the discipline.
+#[inline(never)]
 fn judge_past(
     watch: &Watch,
     layout: &Layout,
@@ -125,7 +127,7 @@ fn judge_past(
     value: u32,
     pc: u32,
     word: u32,
-) -> Result<usize, Stop>
+) -> Result<u32, Stop>
     ensures { (b : BoardValue) (book : Book) (past : List PastEvent) → StandsFor b layout.now core watch.now book past → stop_in result ≡ option_map (λ why. stop_for why pc word address) (rules.breach b layout.now (knowledge b book core past) (accesses.Bypass address store value) width) }
 {
     let strays = cut_off(layout, core, address, width, Route::Bypassing, store);
@@ -147,7 +149,7 @@ pub fn judge_asked(
     asked: &Asked,
     pc: u32,
     word: u32,
-) -> Result<usize, Stop>
+) -> Result<u32, Stop>
     ensures done { asked.now ≡ Asked.Done → stop_in result ≡ None }
     ensures judged { (b : BoardValue) (book : Book) (past : List PastEvent) → StandsFor b layout.now core watch.now book past → stop_in result ≡ option_map (λ why. stop_for why pc word (task_address (task_of asked.now))) (task_breach b layout.now (knowledge b book core past) (task_of asked.now)) }
 {

@@ -114,7 +114,7 @@ pub fn quiet_turns(clock: &Clock) -> u64
 }
 
 /// What the next turn of a running core is about, with the registers as an instruction leaves them.
-#[inline(always)]
+#[inline(never)]
 pub fn aim(
     clock: &Clock,
     regs: &mut Regs,

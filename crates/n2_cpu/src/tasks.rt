@@ -95,7 +95,7 @@ fn store_line(dcache: &mut DCache, address: u32, width: Width, value: u32, reply
 
 /// Notes a load or store of a line, whose record is looked for at a place first.
 #[inline(always)]
-fn note_touch(watch: &mut Watch, place: usize, line: u32, store: bool)
+fn note_touch(watch: &mut Watch, place: u32, line: u32, store: bool)
     requires { HasRoom watch.old }
     ensures once { IsNotedOnce watch.old watch.new }
     ensures stands { (b : BoardValue) (map : AddressMap) (core : ℕ) (book : Book) (past : List PastEvent) (address : ℕ) (width : WidthValue) → StandsFor b map core watch.old book past → line ≡ line_number address → rules.breach b map (knowledge b book core past) (accesses.Cached address store) width ≡ None → StandsFor b map core watch.new book (Touch line store ∷ past) }
@@ -164,6 +164,7 @@ impl State {
     }
 
     /// Latches interrupt lines.
+    #[inline(never)]
     pub fn sample(&mut self, lines: u32) -> Option<Act>
         ensures part { IsPart self.old self.new }
         ensures turned { (b : BoardValue) (map : AddressMap) (book : Book) (past : List PastEvent) → Holds b map self.old book past → let c = core_now self.old past in IsTurned b map self.new result book (spec.turned c (front.sampled c.front lines) c.data_slots (Some (acts.Sample self.old.clock.number))) }
@@ -173,6 +174,7 @@ impl State {
     }
 
     /// Empties a set of the data cache.
+    #[inline(never)]
     pub fn evict(&mut self, set: u32) -> Option<Act>
         requires { set < length self.old.dcache }
         ensures part { IsPart self.old self.new }
@@ -201,6 +203,7 @@ impl State {
     }
 
     /// Fills a code line.
+    #[inline(never)]
     pub fn fill_code(&mut self, line: u32, reply: &Reply) -> Option<Act>
         ensures part { IsPart self.old self.new }
         ensures turned { (b : BoardValue) (map : AddressMap) (book : Book) (past : List PastEvent) → Holds b map self.old book past → HasLine b.memory line → class_of map line ≡ classes.Code → let c = core_now self.old past in IsTurned b map self.new result book (record { front = c.front; data_slots = c.data_slots; code_slots = filled c.code_slots line reply.now.words; act = None }) }
@@ -228,6 +231,7 @@ impl State {
     }
 
     /// Drops a set of the instruction cache.
+    #[inline(never)]
     pub fn drop_code(&mut self, address: u32) -> Option<Act>
         ensures part { IsPart self.old self.new }
         ensures turned { (b : BoardValue) (map : AddressMap) (book : Book) (past : List PastEvent) → Holds b map self.old book past → let c = core_now self.old past in IsTurned b map self.new result book (spec.code_dropped c self.old.clock.number c.front address) }
@@ -239,6 +243,7 @@ impl State {
     }
 
     /// Does an operation on the data cache.
+    #[inline(never)]
     pub fn clean(&mut self, layout: &Layout, op: DataOp, address: u32) -> Option<Act>
         requires { HasRoom self.old.watch }
         ensures part { IsPart self.old self.new }
@@ -254,7 +259,7 @@ impl State {
     #[inline(always)]
     pub fn load(
         &mut self,
-        place: usize,
+        place: u32,
         address: u32,
         width: Width,
         signed: bool,
@@ -279,7 +284,7 @@ impl State {
     #[inline(always)]
     pub fn store(
         &mut self,
-        place: usize,
+        place: u32,
         address: u32,
         width: Width,
         value: u32,
@@ -299,6 +304,7 @@ impl State {
     }
 
     /// Loads past the caches.
+    #[inline(never)]
     pub fn load_past(
         &mut self,
         layout: &Layout,
@@ -321,6 +327,7 @@ impl State {
     }
 
     /// Stores past the caches.
+    #[inline(never)]
     pub fn store_past(
         &mut self,
         layout: &Layout,

@@ -51,13 +51,7 @@ const NOTHING: Reply = Reply {
 impl State {
     /// Does what an instruction left to do.
     #[inline(always)]
-    fn do_asked(
-        &mut self,
-        layout: &Layout,
-        asked: Asked,
-        place: usize,
-        reply: &Reply,
-    ) -> Option<Act>
+    fn do_asked(&mut self, layout: &Layout, asked: Asked, place: u32, reply: &Reply) -> Option<Act>
         requires room { HasRoom self.old.watch }
         requires proper { IsProper asked }
         ensures part { IsPart self.old self.new }
@@ -159,7 +153,26 @@ impl State {
         act
     }
 
+    /// `make` in code of its own: the turn of an instruction that left nothing to do is short without it.
+    #[inline(never)]
+    fn make_apart(
+        &mut self,
+        layout: &Layout,
+        aim: Aim,
+        reply: &Reply,
+        transfer: bool,
+    ) -> Option<Act>
+        requires sound { IsSound self.old }
+        requires running { self.old.stop ≡ None }
+        requires fit { IsFit (length self.old.dcache) aim }
+        ensures sound { IsSound self.new }
+        ensures made { (b : BoardValue) (w : World) (past : List PastEvent) → Holds b layout.now self.old w.book past → IsShared b layout.now w → self.old.clock.number < length b.core → let k = self.old.clock.number in let c = core_now self.old past in let i = intent_of c.front self.old.regs aim in let t = spec.served_by b layout.now k w (spec.wants_by self.old.dcache i) in IsMeant b layout.now k w.book past i → reply.now ≡ t.reply → IsMade b layout.now self.old self.new result transfer t.world.book (spec.answered b layout.now k c w t i) }
+    {
+        self.make(layout, aim, reply, transfer)
+    }
+
     /// What the next turn is.
+    #[inline(never)]
     pub fn plan(&self, layout: &Layout) -> Plan
         requires { IsSound self.now }
         ensures planned { (b : BoardValue) (k : ℕ) (row : CoreRowValue) (c : Core) (w : World) → StandsFor b layout.now k self.now c w → slice_get b.core k ≡ Some row → result ≡ planned self.now.stop (spec.wants b layout.now k row w.book c) }
@@ -202,13 +215,18 @@ impl State {
             &self.watch,
             layout,
         );
+        if let Aim::Do(Asked::Done, place) = aim {
+            let done = Aim::Do(Asked::Done, place);
+            return Step::Made(self.make(layout, done, &NOTHING, false));
+        }
         match wants(&self.dcache, &aim) {
             Some(request) => Step::Wants(request),
-            None => Step::Made(self.make(layout, aim, &NOTHING, false)),
+            None => Step::Made(self.make_apart(layout, aim, &NOTHING, false)),
         }
     }
 
     /// Makes a turn that wants a transfer, with its reply.
+    #[inline(never)]
     pub fn answer(&mut self, layout: &Layout, reply: &Reply) -> Option<Act>
         requires { IsSound self.old }
         ensures sound { IsSound self.new }

@@ -102,7 +102,7 @@ fn wants_asked(dcache: &DCache, asked: &Asked) -> Option<Request>
 }
 
 /// What a core wants of the bus.
-#[inline(always)]
+#[inline(never)]
 pub fn wants(dcache: &DCache, aim: &Aim) -> Option<Request>
     requires { IsFit (length dcache.now) aim.now }
     ensures { (f : Front) (regs : RegsValue) → result ≡ spec.wants_by dcache.now (intent_of f regs aim.now) }

@@ -277,7 +277,7 @@ impl FlatCore {
     }
 
     /// A load past the cache.
-    #[inline(always)]
+    #[inline(never)]
     pub fn load_past(
         &mut self,
         board: &Board,
@@ -490,7 +490,7 @@ impl FlatCore {
     }
 
     /// A store past the cache.
-    #[inline(always)]
+    #[inline(never)]
     pub fn store_past(
         &mut self,
         board: &Board,

@@ -80,7 +80,7 @@ impl FlatCore {
 
     /// The stop for a load or store through the cache, if it strays or is refused; else the place where
     /// its note looks for the record of its line first.
-    #[inline(always)]
+    #[inline(never)]
     pub fn judge_cached(
         &self,
         layout: &Layout,
@@ -88,7 +88,7 @@ impl FlatCore {
         width: Width,
         store: bool,
         word: u32,
-    ) -> Result<usize, Stop>
+    ) -> Result<u32, Stop>
         ensures { (b : BoardValue) (k : ℕ) (book : Book) → StandsFor b layout.now k self.now.watch book self.now.front.past → stop_in result ≡ stop_of self.now.front.regs.pc word address (breach b layout.now (who b k self.now.front book) (accesses.Cached address store) width) }
     {
         match self.watch.judge_cached(layout, address, width, store) {
@@ -134,7 +134,7 @@ impl FlatCore {
     /// Notes a load or store of a line that the judge let pass, with the place that it gave. Want of
     /// memory comes too where the watch's clock is at the end of its type.
     #[inline(always)]
-    pub fn touch(&mut self, place: usize, line: u32, store: bool) -> Result<(), NoMemory>
+    pub fn touch(&mut self, place: u32, line: u32, store: bool) -> Result<(), NoMemory>
         ensures noted { OnOk result (self.new.front ≡ noted self.old.front (events.Touch line store)) }
         ensures same { OnErr result (self.new ≡ self.old) }
         ensures watched { OnOk result ((b : BoardValue) (map : AddressMap) (k : ℕ) (book : Book) (address : ℕ) (width : WidthValue) → IsWatched b map k book self.old → line ≡ line_number address → breach b map (who b k self.old.front book) (accesses.Cached address store) width ≡ None → IsWatched b map k book self.new) }

@@ -34,7 +34,7 @@ impl FlatCore {
         k: u32,
         layout: &Layout,
         common: &Common,
-        place: usize,
+        place: u32,
         address: u32,
         width: Width,
         signed: bool,
@@ -94,7 +94,7 @@ impl FlatCore {
         k: u32,
         layout: &Layout,
         common: &mut Common,
-        place: usize,
+        place: u32,
         address: u32,
         width: Width,
         value: u32,
@@ -145,6 +145,7 @@ impl FlatCore {
     }
 
     /// A data cache operation.
+    #[inline(never)]
     pub fn line_op(
         &mut self,
         board: &Board,

@@ -237,6 +237,7 @@ impl Insn {
 
 /// The instruction of a word, or nothing for a word outside the table. Bits of the word that are
 /// none of the instruction's fields do not count.
+#[inline(always)]
 pub fn decode(word: u32) -> Option<Insn>
     ensures table { result ≡ table_insn word }
     ensures valid { IfSome result (λ insn. IsTrue (is_valid insn)) }
@@ -248,6 +249,7 @@ pub fn decode(word: u32) -> Option<Insn>
     }
 }
 
+#[inline(always)]
 #[tactic(auto, unfolding(crate::specs::Table::table_insn))]
 fn decode_op(word: u32) -> Option<Insn>
     requires { word % 2 ^ 6 ≢ 0x3a }
@@ -301,6 +303,7 @@ fn decode_op(word: u32) -> Option<Insn>
     })
 }
 
+#[inline(always)]
 #[tactic(auto, unfolding(crate::specs::Table::table_insn))]
 fn decode_opx(word: u32) -> Option<Insn>
     requires { word % 2 ^ 6 ≡ 0x3a }

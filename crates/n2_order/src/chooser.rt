@@ -69,6 +69,7 @@ impl Chooser {
     /// over, and then the next in the cycle that is not over. A seed takes the generator's next word,
     /// modulo the number of actors that are not over, as the place among them. A list passes over
     /// actors that are over, and goes on as rounds of one turn from actor 0.
+    #[inline(always)]
     pub fn next(&mut self, over: &[bool]) -> Option<u32>
         requires { length over.now ≡ self.old.actors }
         ensures actor { result ≡ picked self.old over.now }
@@ -80,6 +81,7 @@ impl Chooser {
         self.step(over)
     }
 
+    #[inline(always)]
     fn step(&mut self, over: &[bool]) -> Option<u32>
         requires { length over.now ≡ self.old.actors }
         ensures actor { result ≡ picked self.old over.now }
@@ -120,6 +122,7 @@ impl Turns {
     }
 
     /// The round after the next turn, which is its actor's.
+    #[inline(always)]
     fn next(self, over: &[bool]) -> Option<Turns>
         requires turns { 0 < self.each }
         requires actors { length over.now < 2 ^ 32 }
@@ -144,6 +147,7 @@ impl Turns {
 }
 
 /// Whether an actor is not over.
+#[inline(always)]
 fn is_running(over: &[bool], actor: u32) -> bool
     ensures { result ≡ running_at over.now actor }
 {

@@ -82,6 +82,7 @@ impl Machine {
 
     /// One turn of an actor: a core, or the device actor, whose number is the number of cores. It takes
     /// no memory.
+    #[inline(always)]
     pub fn turn(&mut self, actor: u32) -> Turned
         requires { actor ≤ length self.old.board.core }
         ensures stands { (m : Caching) → StandsFor self.old m → IsBookKept self.old.board self.old.map m → StandsFor self.new (turn self.old.board self.old.map m actor).machine }
@@ -112,6 +113,7 @@ impl Machine {
 
     /// Whether an actor makes no more turns: a core that has stopped, the device actor once its script
     /// is used up or the journal is full.
+    #[inline(always)]
     pub fn over(&self, actor: u32) -> bool
         requires { actor ≤ length self.now.board.core }
         ensures { (m : Caching) → StandsFor self.now m → length m.cores ≡ length self.now.board.core → result ≡ is_over self.now.board m actor }

@@ -38,6 +38,7 @@ impl Script {
     }
 
     /// The next event, or None where the script is used up. The board is the same at every call.
+    #[inline(always)]
     pub fn event(&self, board: &Board) -> Option<DeviceEvent>
         requires { IsReached board.now self.now }
         ensures next { result ≡ slice_get (left board.now self.now) 0 }

@@ -39,7 +39,7 @@ pub struct Broken {
 /// another place searches.
 #[derive(Clone, Copy, Debug, PartialEq, Eq)]
 pub enum Judged {
-    Passed(usize),
+    Passed(u32),
     Refused(Broken),
     Stray,
 }

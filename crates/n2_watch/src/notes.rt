@@ -110,7 +110,7 @@ impl Watch {
     /// Notes a load or store of a line through the cache, while the clock has room. The access was
     /// judged before and passed, with the place where the record of its line is looked for first.
     #[inline(always)]
-    pub fn note_touched_at(&mut self, place: usize, line: u32, store: bool)
+    pub fn note_touched_at(&mut self, place: u32, line: u32, store: bool)
         requires { self.old.table.clock + 1 < 2 ^ 64 }
         ensures once { IsNotedOnce self.old self.new }
         ensures noted { IsWatchNoted self.old self.new }

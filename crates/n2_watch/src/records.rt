@@ -346,9 +346,9 @@ impl Records {
 /// What records say of the past events that they stand for.
 impl Records {
     /// The place of a line's record, unless the line is stale. A line without a record is not, and
-    /// its place says nothing.
+    /// its place says nothing. A place is where a note looks first, so its lower 32 bits do.
     #[inline(always)]
-    pub fn place_unless_stale(&self, line: u32) -> Option<usize>
+    pub fn place_unless_stale(&self, line: u32) -> Option<u32>
         ensures { (map : AddressMap) (past : List PastEvent) → LinesStand map self.now past → is_none result ≡ stale map (length self.now.cleaned) past line }
     {
         match self.find(line) {
@@ -356,7 +356,7 @@ impl Records {
                 if self.is_stale(&self.records[i]) {
                     None
                 } else {
-                    Some(i)
+                    Some((i & 0xffff_ffff) as u32)
                 }
             }
             None => Some(0),
@@ -451,13 +451,13 @@ impl Records {
 
     /// A Touch of a line, whose record may be at a place.
     #[inline(always)]
-    pub fn note_touch_at(&mut self, place: usize, line: u32, store: bool)
+    pub fn note_touch_at(&mut self, place: u32, line: u32, store: bool)
         requires { self.old.clock + 1 < 2 ^ 64 }
         ensures noted { IsNoted self.old self.new }
         ensures stands { (map : AddressMap) (past : List PastEvent) → IsRecorded self.old.records line → LinesStand map self.old past → LinesStand map self.new (Touch line store ∷ past) }
     {
-        if is_at(self.records.as_slice(), place, line) {
-            self.touch(place, store);
+        if is_at(self.records.as_slice(), place as usize, line) {
+            self.touch(place as usize, store);
         } else {
             self.note_touch(line, store);
         }

@@ -13,7 +13,7 @@ of input and the host takes none, so `receive` moves two bytes and `drain` none.
 1,000 lines that were touched, one after another, `note1000` notes loads and stores of them, and `pass1000` does
 both, as a core does for each that hits its cache; the other numbers of lines are for the same.
 
-A journal's entries are fills of the data cache, with eight words each, 95 bytes in the text: `writetext` is taken
+A journal's entries are fills of the data cache, with eight words each, 91 bytes in the text: `writetext` is taken
 less `entries`, which makes the journal alone, and `readtext` less `writetext`. Peak memory is that of the whole
 program: with the journal that was made, with its text, and with the journal that was read.
 """

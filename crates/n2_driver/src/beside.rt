@@ -4,7 +4,7 @@ ghost use Rattle.std.specs.Prelude.{◌≡◌, ℕ, ◌≤◌, ◌++◌, ◌∷�
 ghost use Rattle.n2_memory.specs.Memories.{Contents};
 ghost use Rattle.n2_runs.specs.Machine.{Machine as Caching, turn, is_over, run, acts};
 ghost use Rattle.n2_runs.specs.FlatRun.{Flat as FlatValue, flat as flat_after};
-ghost use Rattle.n2_runs.specs.Along.{IsAlong};
+ghost use Rattle.n2_runs.specs.Along.{IsAlong, after};
 ghost use Rattle.n2_runs.specs.Knows.{IsBookKept};
 ghost use Rattle.n2_runs.specs.Recorded.{actors_in, actors_of, HasCounts};
 ghost use Rattle.n2_smp.specs.Standing.{StandsFor, answer_of};
@@ -30,6 +30,8 @@ pub fn turn_beside(
     requires beside { AreBeside machine.old layout.now flat.old }
     requires actor { actor ≤ length machine.old.board.core }
     ensures answer { IfOk result (λ turned. (m : Caching) → StandsFor machine.old m → IsBookKept machine.old.board machine.old.map m → turned ≡ answer_of (is_over machine.old.board m actor) (turn machine.old.board machine.old.map m actor).act) }
+    ensures stands { (m : Caching) → StandsFor machine.old m → IsBookKept machine.old.board machine.old.map m → StandsFor machine.new (turn machine.old.board machine.old.map m actor).machine }
+    ensures flat { OnOk result ((m : Caching) → StandsFor machine.old m → IsBookKept machine.old.board machine.old.map m → machine_of flat.new ≡ after machine.old.board machine.old.map (machine_of flat.old) (turn machine.old.board machine.old.map m actor).act) }
     ensures underway { OnOk result ((end : Caching) (flat_end : FlatValue) (left : List ℕ) → AreUnderway end flat_end machine.old (machine_of flat.old) (actor ∷ left) → AreUnderway end flat_end machine.new (machine_of flat.new) left) }
     ensures beside { AreBeside machine.new layout.now flat.new }
     ensures board { machine.new.board ≡ machine.old.board }

@@ -13,6 +13,10 @@ returns-in_err-act-in-Acted-clause-beside c =
     let h = c.requires.beside in
     beside_after c.args.machine.now c.turn.new.self c.args.layout.now c.args.flat.now c.act.new.self c.args.actor h c.turn.ensures.board c.turn.ensures.map c.act.ensures.board c.act.ensures.whole (c.turn.ensures.stands h.state h.stands.0 h.stands.1) (c.turn.ensures.kept h.state h.stands.1)
 
+pub returns-in_ok-act-in-Acted-clause-flat : goal.returns-in_ok-act-in-Acted-clause-flat
+returns-in_ok-act-in-Acted-clause-flat c = λ m stands kept.
+    acted_after c.args.machine.now c.args.layout.now c.args.flat.now m _ c.args.actor c.in-Acted.act c.requires.beside (sym c.in-Acted.is ∙ c.turn.ensures.answer m stands kept) c.in_ok-act-in-Acted.ensures.done
+
 pub returns-in_ok-act-in-Acted-clause-underway : goal.returns-in_ok-act-in-Acted-clause-underway
 returns-in_ok-act-in-Acted-clause-underway c = λ end flat_end left u.
     next_beside end flat_end c.args.machine.now c.turn.new.self _ _ c.args.actor left u c.turn.ensures.board c.turn.ensures.map (c.turn.ensures.stands u.state u.stands.0 u.stands.1) (c.turn.ensures.kept u.state u.stands.1)
@@ -22,6 +26,11 @@ pub returns-in_ok-act-in-Acted-clause-beside : goal.returns-in_ok-act-in-Acted-c
 returns-in_ok-act-in-Acted-clause-beside c =
     let h = c.requires.beside in
     beside_after c.args.machine.now c.turn.new.self c.args.layout.now c.args.flat.now c.act.new.self c.args.actor h c.turn.ensures.board c.turn.ensures.map c.act.ensures.board c.act.ensures.whole (c.turn.ensures.stands h.state h.stands.0 h.stands.1) (c.turn.ensures.kept h.state h.stands.1)
+
+pub returns-in-Local-clause-flat : goal.returns-in-Local-clause-flat
+returns-in-Local-clause-flat c = λ m stands kept.
+    let v = c.args.machine.now in
+    none_after v m _ c.args.actor (local_is (is_over v.board m c.args.actor) (turn v.board v.map m c.args.actor).act (sym c.in-Local.is ∙ c.turn.ensures.answer m stands kept))
 
 pub returns-in-Local-clause-underway : goal.returns-in-Local-clause-underway
 returns-in-Local-clause-underway c = λ end flat_end left u.
@@ -33,6 +42,11 @@ pub returns-in-Local-clause-beside : goal.returns-in-Local-clause-beside
 returns-in-Local-clause-beside c =
     let h = c.requires.beside in
     beside_after c.args.machine.now c.turn.new.self c.args.layout.now c.args.flat.now c.args.flat.now c.args.actor h c.turn.ensures.board c.turn.ensures.map refl h.whole (c.turn.ensures.stands h.state h.stands.0 h.stands.1) (c.turn.ensures.kept h.state h.stands.1)
+
+pub returns-in-Over-clause-flat : goal.returns-in-Over-clause-flat
+returns-in-Over-clause-flat c = λ m stands kept.
+    let v = c.args.machine.now in
+    none_after v m _ c.args.actor (over_has_none v.board v.map m kept.count c.args.actor (sym c.in-Over.is ∙ c.turn.ensures.answer m stands kept))
 
 pub returns-in-Over-clause-underway : goal.returns-in-Over-clause-underway
 returns-in-Over-clause-underway c = λ end flat_end left u.

@@ -7,6 +7,7 @@ pub mod Guarded
 pub mod Uarts
 pub mod Tasked
 pub mod Alone
+pub mod Recent
 pub mod Fetched
 pub mod Aligned
 pub mod Whole

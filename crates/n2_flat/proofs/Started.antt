@@ -1,5 +1,5 @@
 -- The machine at the start is whole.
-use Rattle.std.proofs.Common.{◌≡◌, ◌⊎◌, ℕ, zero, suc, ◌+◌, ◌%◌, ◌<◌, ◌&&◌, eqb, Bool, true, false, leb, List, [], ◌∷◌, ◌++◌, length, map, Option, Some, None, slice_get, refl, sym, ap, subst, inl, inr, ◌∙◌, arith}
+use Rattle.std.proofs.Common.{◌≡◌, ◌⊎◌, ℕ, zero, suc, ◌+◌, ◌%◌, ◌/◌, ◌^◌, ◌<◌, ◌&&◌, eqb, Bool, true, false, leb, List, [], ◌∷◌, ◌++◌, length, map, Option, Some, None, slice_get, refl, sym, ap, subst, inl, inr, ◌∙◌, arith}
 use Rattle.std.specs.Prelude.{option_and_then}
 use Rattle.std.proofs.Common.{not}
 use Rattle.std.specs.List.{AllByRecursion}
@@ -115,7 +115,11 @@ core_aligned b images map' k c valid fits s =
     subst (λ (f : Front). IsAligned f.regs) (sym s.front)
     (record { pc = pc_aligned b images fits k s.row s.image s.row_is s.image_is; vector = exception_aligned b valid k s.row s.row_is })
 
-pub started_whole : (b : Board) (images : List Image) (map' : AddressMap) (common : CommonState) (cores : List CoreState) → IsValid b → length images ≡ length b.core → AllByRecursion IsSized images → open_fault b images ≡ None → map' ≡ address_map b images → common ≡ record { wiring = wiring_of b; world = start_world b images } → length cores ≡ length b.core → ((k : ℕ) (c : CoreState) → slice_get cores k ≡ Some c → IsStarted b images map' k c) → HasWorldShape b (start_world b images) → IsKept b map' (start_book b) (map (λ core. []) b.core) → IsWhole map' (record { board = b; common = common; cores = cores })
+-- no address has the line that stands for none
+no_line : (pc : ℕ) → pc < 2 ^ 32 → pc / 32 ≡ 4294967295 → ⊥
+no_line pc few line = omega arith
+
+pub started_whole : (b : Board) (images : List Image) (map' : AddressMap) (common : CommonState) (cores : List CoreState) → IsValid b → length images ≡ length b.core → AllByRecursion IsSized images → open_fault b images ≡ None → map' ≡ address_map b images → common ≡ record { wiring = wiring_of b; world = start_world b images } → length cores ≡ length b.core → ((k : ℕ) (c : CoreState) → slice_get cores k ≡ Some c → IsStarted b images map' k c) → HasWorldShape b (start_world b images) → IsKept b map' (start_book b) (map (λ core. []) b.core) → IsWhole map' (record { board = b; common = common; cores = cores; recent = 4294967295 })
 started_whole b images map' common cores valid count sized fits maps e long each shape kept = record {
   map_of = record { valid = valid; images = images; count = count; maps = maps };
   wiring = ap (λ (x : CommonState). x.wiring) e;
@@ -124,9 +128,10 @@ started_whole b images map' common cores valid count sized fits maps e long each
   kept = subst (λ (x : CommonState). IsKept b map' x.world.book (map past_of cores)) (sym e) (subst (λ (ps : List (List Past)). IsKept b map' (start_book b) ps) (pasts_started b.core cores long (λ k c f. ap (λ (g : Front). g.past) (each k c f).front)) kept);
   watched = λ k c f. record { stands = subst (λ (x : CommonState). StandsFor b map' k c.watch x.world.book c.front.past) (sym e) (subst (λ (p : List Past). StandsFor b map' k c.watch (start_book b) p) (sym (ap (λ (g : Front). g.past) (each k c f).front)) (each k c f).stands) };
   aligned = λ k c f. core_aligned b images map' k c valid fits (each k c f);
+  fetched = λ pc few line. absurd (no_line pc few line);
 }
 
-pub started_machine : (b : Board) (images : List Image) (map' : AddressMap) (common : CommonState) (cores : List CoreState) → length images ≡ length b.core → common ≡ record { wiring = wiring_of b; world = start_world b images } → length cores ≡ length b.core → ((k : ℕ) (c : CoreState) → slice_get cores k ≡ Some c → IsStarted b images map' k c) → machine_of (record { board = b; common = common; cores = cores }) ≡ flat_start b images
+pub started_machine : (b : Board) (images : List Image) (map' : AddressMap) (common : CommonState) (cores : List CoreState) → length images ≡ length b.core → common ≡ record { wiring = wiring_of b; world = start_world b images } → length cores ≡ length b.core → ((k : ℕ) (c : CoreState) → slice_get cores k ≡ Some c → IsStarted b images map' k c) → machine_of (record { board = b; common = common; cores = cores; recent = 4294967295 }) ≡ flat_start b images
 started_machine b images map' common cores count e long each =
     ap (λ (x : CommonState). record { world = x.world; cores = map front_of cores }) e
     ∙ ap (λ (fs : List Front). record { world = start_world b images; cores = fs })

@@ -34,7 +34,7 @@ use Rattle.n2_front.specs.Retire.{Acted, acted, retired}
 use Rattle.n2_front.proofs.KeptActs.{retired_kept, retired_shape}
 use Rattle.n2_front.proofs.Others.{guards_left, pointers_left}
 use Rattle.n2_runs.specs.FlatRun.{act, retires, samples, sampled_by, with_core, unless_stopped}
-use Rattle.n2_flat.specs.State.{CoreState, CommonState, State, IsAt, IsWatched, IsWhole, IsAligned, front_of, past_of, machine_of, acted_by, common_after}
+use Rattle.n2_flat.specs.State.{CoreState, CommonState, State, IsAt, IsWatched, IsWhole, IsFetchable, IsAligned, front_of, past_of, machine_of, acted_by, common_after}
 use Rattle.n2_flat.proofs.Alone.{IsAlone, alone_book, stands_on}
 use Rattle.n2_flat.proofs.Aligned.{retired_aligned}
 
@@ -52,7 +52,7 @@ is_at map' s k c h found = record {
 
 -- a state with another core, and with what all share as an act left it
 abbrev pub state_with : State → ℕ → CoreState → CommonState → State
-state_with s k c common = record { board = s.board; common = common; cores = slice_set s.cores k c }
+state_with s k c common = record { board = s.board; common = common; cores = slice_set s.cores k c; recent = s.recent }
 
 with_shape : (map' : AddressMap) (s : State) (k : ℕ) (c next : CoreState) (common : CommonState) → IsWhole map' s → slice_get s.cores k ≡ Some c → acted_by next common ≡ retired s.board map' k c.front s.common.world → HasWorldShape s.board common.world
 with_shape map' s k c next common h found e =
@@ -96,7 +96,24 @@ retired_whole map' s k c next common h found e wiring watched =
       kept = with_kept map' s k c next common h found e;
       watched = either_core s k c next (λ j d. IsWatched s.board map' j common.world.book d) found watched (others_watched map' s k c next common h found e);
       aligned = either_core s k c next (λ j d. IsAligned d.front.regs) found (subst (λ (a : Acted). IsAligned a.front.regs) (sym e) (retired_aligned s.board map' k c.front s.common.world (h.aligned k c found))) (λ j d n other. h.aligned j d other);
+      fetched = h.fetched;
     }
+
+-- the same but for the line of the last fetch
+abbrev pub with_recent : State → ℕ → State
+with_recent s recent = record { board = s.board; common = s.common; cores = s.cores; recent = recent }
+
+pub recent_whole : (map' : AddressMap) (s : State) (recent : ℕ) → IsWhole map' s → IsFetchable map' recent → IsWhole map' (with_recent s recent)
+recent_whole map' s recent h fetched = record {
+  map_of = h.map_of;
+  wiring = h.wiring;
+  count = h.count;
+  shape = h.shape;
+  kept = h.kept;
+  watched = h.watched;
+  aligned = h.aligned;
+  fetched = fetched;
+}
 
 -- ---- the definition's act
 pub retired_act : (map' : AddressMap) (s : State) (k : ℕ) (c next : CoreState) (common : CommonState) → slice_get s.cores k ≡ Some c → c.front.stop ≡ None → acted_by next common ≡ retired s.board map' k c.front s.common.world → machine_of (state_with s k next common) ≡ act s.board map' (machine_of s) (Retire k)
@@ -142,6 +159,7 @@ sampled_whole map' s k c next h found past aligned watched =
       kept = subst (λ (ps : List (List Past)). IsKept s.board map' s.common.world.book ps) (sym (map-set past_of s.cores k next ∙ set_itself pasts k next.front.past there)) h.kept;
       watched = either_core s k c next (λ j d. IsWatched s.board map' j s.common.world.book d) found watched (λ j d n other. h.watched j d other);
       aligned = either_core s k c next (λ j d. IsAligned d.front.regs) found aligned (λ j d n other. h.aligned j d other);
+      fetched = h.fetched;
     }
 
 pub sampled_act : (map' : AddressMap) (s : State) (k : ℕ) (c next : CoreState) → slice_get s.cores k ≡ Some c → c.front.stop ≡ None → acted_by next s.common ≡ sampled_by s.board map' k c.front s.common.world → machine_of (state_with s k next s.common) ≡ act s.board map' (machine_of s) (Sample k)
@@ -183,11 +201,11 @@ event_left map' s event common h e =
     ∙ ap (λ (x : Wiring). (common_after x (length s.board.core) s.common.world (request_for event)).world) h.wiring
     ∙ sym (alone_book s.board map' (length s.board.core) s.common.world (request_for event) (event_alone s.board map' s.common.world.book event))
 
-pub event_act : (map' : AddressMap) (s : State) (event : DeviceEvent) (common : CommonState) → IsWhole map' s → common ≡ common_after s.common.wiring (length s.board.core) s.common.world (request_for event) → machine_of (record { board = s.board; common = common; cores = s.cores }) ≡ act s.board map' (machine_of s) (Device event)
+pub event_act : (map' : AddressMap) (s : State) (event : DeviceEvent) (common : CommonState) → IsWhole map' s → common ≡ common_after s.common.wiring (length s.board.core) s.common.world (request_for event) → machine_of (record { board = s.board; common = common; cores = s.cores; recent = s.recent }) ≡ act s.board map' (machine_of s) (Device event)
 unfolding act
 event_act map' s event common h e = ap (λ (w : World). record { world = w; cores = map front_of s.cores }) (event_left map' s event common h e)
 
-pub event_whole : (map' : AddressMap) (s : State) (event : DeviceEvent) (common : CommonState) → IsWhole map' s → IsTrue (proper (wiring_of s.board) (length s.board.core) (request_for event)) → common ≡ common_after s.common.wiring (length s.board.core) s.common.world (request_for event) → IsWhole map' (record { board = s.board; common = common; cores = s.cores })
+pub event_whole : (map' : AddressMap) (s : State) (event : DeviceEvent) (common : CommonState) → IsWhole map' s → IsTrue (proper (wiring_of s.board) (length s.board.core) (request_for event)) → common ≡ common_after s.common.wiring (length s.board.core) s.common.world (request_for event) → IsWhole map' (record { board = s.board; common = common; cores = s.cores; recent = s.recent })
 event_whole map' s event common h is_proper e =
     let actor = length s.board.core in
     let w = s.common.world in
@@ -210,6 +228,7 @@ event_whole map' s event common h is_proper e =
                 (λ index row f sends. pointer_like w.book t.world.book index alike.mailboxes) its.stands;
           });
       aligned = h.aligned;
+      fetched = h.fetched;
     }
 
 -- ---- for the calls that index a list of cores
@@ -228,7 +247,7 @@ once None e = absurd (true≢false e)
 once (Some stop) e = (stop, refl)
 
 same_state : (s : State) (k : ℕ) (c : CoreState) → slice_get s.cores k ≡ Some c → state_with s k c s.common ≡ s
-same_state s k c found = ap (λ (cores : List CoreState). record { board = s.board; common = s.common; cores = cores }) (set_itself s.cores k c found)
+same_state s k c found = ap (λ (cores : List CoreState). record { board = s.board; common = s.common; cores = cores; recent = s.recent }) (set_itself s.cores k c found)
 
 pub retired_end : (map' : AddressMap) (s : State) (k : ℕ) (c next : CoreState) (common : CommonState) (r : Result (Unit {0}) NoMemory) → IsWhole map' s → slice_get s.cores k ≡ Some c → OnOk r (acted_by next common ≡ retired s.board map' k c.front s.common.world) → OnErr r (next ≡ c) → OnErr r (common ≡ s.common) → common.wiring ≡ s.common.wiring → IsWatched s.board map' k common.world.book next → IsWhole map' (state_with s k next common)
 retired_end map' s k c next common (Ok x) h found e same rest wiring watched = retired_whole map' s k c next common h found e wiring watched

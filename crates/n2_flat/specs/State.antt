@@ -1,5 +1,5 @@
 -- What the flat machine keeps, beside what the definition has, and when it is whole.
-use Rattle.std.specs.Prelude.{◌≡◌, ℕ, ◌%◌, ◌<◌, List, [], ◌∷◌, length, map, Bool, true, false, not, ◌==◌, if◌then◌else◌, IsTrue, Option, Some, None, Result, Ok, Err, option_map, slice_get, get_or}
+use Rattle.std.specs.Prelude.{◌≡◌, ℕ, ◌%◌, ◌/◌, ◌^◌, ◌<◌, List, [], ◌∷◌, length, map, Bool, true, false, not, ◌==◌, if◌then◌else◌, IsTrue, Option, Some, None, Result, Ok, Err, option_map, slice_get, get_or}
 use Rattle.n2_exec.specs.declared.registers.Regs.{Regs}
 use Rattle.n2_elf.specs.declared.image.Image.{Image}
 use Rattle.n2_parts.specs.declared.board.Board.{Board}
@@ -12,6 +12,7 @@ use Rattle.n2_parts.specs.declared.stops.Act.TheVariants as acts
 use Rattle.n2_board.specs.declared.places.Place.{Place}
 use Rattle.n2_board.specs.declared.places.Place.TheVariants as places
 use Rattle.n2_board.specs.AddressMap.{AddressMap}
+use Rattle.n2_board.specs.Access.{fetch_violation}
 use Rattle.n2_bus.specs.Wiring.{Wiring, wiring_of, proper}
 use Rattle.n2_bus.specs.declared.request.Request.{Request}
 use Rattle.n2_bus.specs.Transfer.{served, request_for}
@@ -43,10 +44,12 @@ pub record CommonState : Type 0 where
   pub wiring : Wiring
   pub world : World
 
+-- the machine, with the line, bit 31 of an address counted, from which an instruction was fetched last
 pub record State : Type 0 where
   pub board : Board
   pub common : CommonState
   pub cores : List CoreState
+  pub recent : ℕ
 
 abbrev pub front_of : CoreState → Front
 front_of c = c.front
@@ -100,6 +103,10 @@ pub record IsAligned (regs : Regs) : Type 0 where
   pub pc : regs.pc % 4 ≡ 0
   pub vector : regs.vector % 4 ≡ 0
 
+-- no fetch from a line is cut off
+abbrev pub IsFetchable : AddressMap → ℕ → Type 0
+IsFetchable map' recent = (pc : ℕ) → pc < 2 ^ 32 → pc / 32 ≡ recent → fetch_violation map' pc ≡ None
+
 pub record IsWhole (map' : AddressMap) (s : State) : Type 0 where
   pub map_of : IsMapOf s.board map'
   pub wiring : s.common.wiring ≡ wiring_of s.board
@@ -108,6 +115,7 @@ pub record IsWhole (map' : AddressMap) (s : State) : Type 0 where
   pub kept : IsKept s.board map' s.common.world.book (map past_of s.cores)
   pub watched : (k : ℕ) (c : CoreState) → slice_get s.cores k ≡ Some c → IsWatched s.board map' k s.common.world.book c
   pub aligned : (k : ℕ) (c : CoreState) → slice_get s.cores k ≡ Some c → IsAligned c.front.regs
+  pub fetched : IsFetchable map' s.recent
 
 -- core k of a board at the start
 pub record IsStarted (b : Board) (images : List Image) (map : AddressMap) (k : ℕ) (c : CoreState) : Type 0 where

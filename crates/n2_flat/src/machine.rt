@@ -21,12 +21,14 @@ use n2_watch::Past;
 use n2_word::NoMemory;
 use std::marker::Model;
 
-/// The flat machine: a board's memories and devices without caches, and its cores.
+/// The flat machine: a board's memories and devices without caches, its cores, and the line, bit 31 of
+/// an address counted, from which an instruction was fetched last.
 #[derive(Drop)]
 pub struct Flat {
     pub(crate) board: Board,
     pub(crate) common: Common,
     pub(crate) cores: Vec<FlatCore>,
+    pub(crate) recent: u32,
 }
 
 impl Model for Flat {
@@ -34,7 +36,7 @@ impl Model for Flat {
 
     ghost Value = { State };
 
-    ghost view = { λ m. record { board = m.board; common = m.common; cores = m.cores.items } };
+    ghost view = { λ m. record { board = m.board; common = m.common; cores = m.cores.items; recent = m.recent } };
 }
 
 /// The request for an event.
@@ -79,7 +81,7 @@ impl Flat {
         if core.stop.is_some() {
             return Ok(());
         }
-        core.retire(&self.board, k, layout, &mut self.common)
+        core.retire(&self.board, k, layout, &mut self.common, &mut self.recent)
     }
 
     /// A core latches its interrupt lines; a core that stopped stays as it is.

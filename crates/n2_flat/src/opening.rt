@@ -174,6 +174,7 @@ impl Flat {
             board,
             common,
             cores,
+            recent: u32::MAX,
         })
     }
 }

@@ -1,6 +1,6 @@
 //! One act of a core: an interrupt, an instruction, or a stop.
 
-ghost use Rattle.std.specs.Prelude.{◌≡◌, ◌≢◌, ◌%◌, None, OnOk, OnErr};
+ghost use Rattle.std.specs.Prelude.{◌≡◌, ◌≢◌, ◌%◌, None, Some, OnOk, OnErr};
 ghost use Rattle.n2_exec.specs.declared.Asked.TheVariants as wishes;
 ghost use Rattle.n2_exec.specs.Outcomes.{IsProper};
 ghost use Rattle.n2_front.specs.Tasks.{task_of, stop_for};
@@ -8,7 +8,10 @@ ghost use Rattle.n2_front.specs.Retire.{who, performed, with_word, fetched, reti
 ghost use Rattle.n2_watch.specs.declared.access.Access.TheVariants as accesses;
 ghost use Rattle.n2_watch.specs.Discipline.{violation, breach};
 ghost use Rattle.n2_word.specs.Lines.{line as line_number};
-ghost use Rattle.n2_flat.specs.State.{IsWatched, IsAt, acted_by};
+ghost use Rattle.n2_board.specs.Access as rules;
+ghost use Rattle.n2_board.specs.declared.access.Violation.{Violation as ViolationValue};
+ghost use Rattle.n2_watch.specs.Watched.{IsMapOf};
+ghost use Rattle.n2_flat.specs.State.{IsWatched, IsAt, IsFetchable, acted_by};
 
 use crate::common::Common;
 use crate::cores::FlatCore;
@@ -29,6 +32,27 @@ fn cut_off(wrong: Violation, pc: u32) -> Stop
             address: pc,
             line: line_of(pc),
         }),
+    }
+}
+
+/// Why a fetch is cut off, if it is. A fetch from the line of the last one that was not asks nothing.
+#[inline(always)]
+fn fetch_violation(board: &Board, layout: &Layout, recent: &mut u32, pc: u32) -> Option<Violation>
+    requires map { IsMapOf board.now layout.now }
+    requires recent { IsFetchable layout.now recent.old }
+    ensures wrong { result ≡ rules.fetch_violation layout.now pc }
+    ensures recent { IsFetchable layout.now recent.new }
+    ensures line { (wrong : ViolationValue) → result ≡ Some wrong → recent.new ≡ recent.old }
+{
+    if pc / 32 == *recent {
+        return None;
+    }
+    match layout.fetch_violation(pc) {
+        Some(wrong) => Some(wrong),
+        None => {
+            *recent = pc / 32;
+            None
+        }
     }
 }
 
@@ -127,25 +151,36 @@ impl FlatCore {
         k: u32,
         layout: &Layout,
         common: &mut Common,
+        recent: &mut u32,
     ) -> Result<(), NoMemory>
         requires at { IsAt board.now layout.now k common.old self.old }
         requires aligned { self.old.front.regs.pc % 4 ≡ 0 }
+        requires recent { IsFetchable layout.now recent.old }
         ensures done { OnOk result (acted_by self.new common.new ≡ fetched board.now layout.now k self.old.front common.old.world (breach board.now layout.now (who board.now k self.old.front common.old.world.book) (accesses.Fetch self.old.front.regs.pc) Width.Word)) }
         ensures same { OnErr result (self.new ≡ self.old) }
         ensures common { OnErr result (common.new ≡ common.old) }
+        ensures line { OnErr result (recent.new ≡ recent.old) }
         ensures wiring { common.new.wiring ≡ common.old.wiring }
         ensures watched { IsWatched board.now layout.now k common.new.world.book self.new }
+        ensures recent { IsFetchable layout.now recent.new }
     {
         n2_board::laws::in_memory();
         let pc = self.regs.pc;
-        match layout.fetch_violation(pc) {
+        let before = *recent;
+        match fetch_violation(board, layout, recent, pc) {
             Some(wrong) => {
                 self.halt(cut_off(wrong, pc));
                 Ok(())
             }
             None => {
                 let word = common.word(pc);
-                self.execute(board, k, layout, common, word)
+                match self.execute(board, k, layout, common, word) {
+                    Ok(()) => Ok(()),
+                    Err(none) => {
+                        *recent = before;
+                        Err(none)
+                    }
+                }
             }
         }
     }
@@ -159,19 +194,23 @@ impl FlatCore {
         k: u32,
         layout: &Layout,
         common: &mut Common,
+        recent: &mut u32,
     ) -> Result<(), NoMemory>
         requires at { IsAt board.now layout.now k common.old self.old }
         requires aligned { self.old.front.regs.pc % 4 ≡ 0 }
+        requires recent { IsFetchable layout.now recent.old }
         ensures done { OnOk result (acted_by self.new common.new ≡ retired board.now layout.now k self.old.front common.old.world) }
         ensures same { OnErr result (self.new ≡ self.old) }
         ensures common { OnErr result (common.new ≡ common.old) }
+        ensures line { OnErr result (recent.new ≡ recent.old) }
         ensures wiring { common.new.wiring ≡ common.old.wiring }
         ensures watched { IsWatched board.now layout.now k common.new.world.book self.new }
+        ensures recent { IsFetchable layout.now recent.new }
     {
         if waiting(&self.regs) {
             self.regs.take_interrupt();
             return Ok(());
         }
-        self.fetch(board, k, layout, common)
+        self.fetch(board, k, layout, common, recent)
     }
 }

@@ -7,7 +7,6 @@ use Rattle.n2_watch.specs.Discipline.{violation}
 use Rattle.n2_front.specs.Tasks.{stop_for}
 use Rattle.n2_front.specs.Retire.{with_word}
 use Rattle.n2_flat.specs.State.{CoreState, acted_by}
-use Rattle.n2_flat.proofs.Tasked.{on_ok}
 use Rattle.n2_flat.proofs.Fetched.{fetch_stop, fetch_goes}
 use Rattle.n2_flat.proofs.cores.FlatCore.fetch.Goals as goal
 
@@ -15,17 +14,15 @@ pub returns-in-Some-clause-done : goal.returns-in-Some-clause-done
 returns-in-Some-clause-done c =
     let pc : c.self.inside.regs.pc ≡ c.args.self.now.front.regs.pc = ap (λ (s : CoreState). s.front.regs.pc) c.self.view_is in
     fetch_stop c.args.board.now c.args.layout.now c.args.k c.args.self.now.front c.args.common.now.world c.halt.new.self.front c.in-Some.wrong c.cut_off.result
-    (c.in-Some.ensures ∙ ap (λ (n : ℕ). fetch_violation c.args.layout.now n) pc)
+    (c.in-Some.ensures.wrong ∙ ap (λ (n : ℕ). fetch_violation c.args.layout.now n) pc)
     (c.cut_off.ensures ∙ ap (λ (n : ℕ). stop_for (violation c.in-Some.wrong (line n)) n 0 n) pc)
     c.halt.ensures.front
 
-pub returns-in-None-clause-done : goal.returns-in-None-clause-done
-returns-in-None-clause-done c =
+pub returns-in-Ok-clause-done : goal.returns-in-Ok-clause-done
+returns-in-Ok-clause-done c =
     let pc : c.self.inside.regs.pc ≡ c.args.self.now.front.regs.pc = ap (λ (s : CoreState). s.front.regs.pc) c.self.view_is in
     let w = c.args.common.now.world in
-    on_ok c.execute.result _ _
-    (λ (e : acted_by c.execute.new.self c.execute.new.common ≡ with_word c.args.board.now c.args.layout.now c.args.k c.args.self.now.front w c.word-word.result).
+    let e : acted_by c.execute.new.self c.execute.new.common ≡ with_word c.args.board.now c.args.layout.now c.args.k c.args.self.now.front w c.word-word.result = c.in-Ok.ensures.done in
     e
     ∙ ap (λ (x : ℕ). with_word c.args.board.now c.args.layout.now c.args.k c.args.self.now.front w x) (c.word-word.ensures ∙ ap (λ (n : ℕ). read_at w.memory n Word) pc)
-    ∙ fetch_goes c.args.board.now c.args.layout.now c.args.k c.args.self.now.front w (c.in-None.ensures ∙ ap (λ (n : ℕ). fetch_violation c.args.layout.now n) pc))
-    c.execute.ensures.done
+    ∙ fetch_goes c.args.board.now c.args.layout.now c.args.k c.args.self.now.front w (c.in-None.ensures.wrong ∙ ap (λ (n : ℕ). fetch_violation c.args.layout.now n) pc)

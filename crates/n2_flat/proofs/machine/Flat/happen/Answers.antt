@@ -17,7 +17,7 @@ overflow_cast-actor c =
 pub returns-clause-done : goal.returns-clause-done
 returns-clause-done c =
     let i = c.self.inside in
-    let s : State = record { board = i.board; common = i.common; cores = i.cores.items } in
+    let s : State = record { board = i.board; common = i.common; cores = i.cores.items; recent = i.recent } in
     let h : IsWhole c.args.layout.now s = subst (λ (x : State). IsWhole c.args.layout.now x) (sym c.self.view_is) c.requires.whole in
     event_act c.args.layout.now s c.args.event c.transfer.new.self h
     (c.transfer.ensures.after
@@ -28,7 +28,7 @@ returns-clause-done c =
 pub returns-clause-whole : goal.returns-clause-whole
 returns-clause-whole c =
     let i = c.self.inside in
-    let s : State = record { board = i.board; common = i.common; cores = i.cores.items } in
+    let s : State = record { board = i.board; common = i.common; cores = i.cores.items; recent = i.recent } in
     let h : IsWhole c.args.layout.now s = subst (λ (x : State). IsWhole c.args.layout.now x) (sym c.self.view_is) c.requires.whole in
     event_whole c.args.layout.now s c.args.event c.transfer.new.self h
     (subst (λ (x : State). IsTrue (proper (wiring_of x.board) (length x.board.core) (request_for c.args.event))) (sym c.self.view_is) c.requires.proper)

@@ -13,6 +13,6 @@ pub returns-clause-whole : goal.returns-clause-whole
 returns-clause-whole c =
     let b = c.args.board.now in
     let l = c.args.layout.now in
-    subst (λ (x : Board). IsWhole l (record { board = x; common = c.in_ok-common.common; cores = c.in_ok-cores.cores.items })) (sym c.in_ok-board.ensures)
+    subst (λ (x : Board). IsWhole l (record { board = x; common = c.in_ok-common.common; cores = c.in_ok-cores.cores.items; recent = 4294967295 })) (sym c.in_ok-board.ensures)
     (started_whole b c.args.images.now l c.in_ok-common.common c.in_ok-cores.cores.items c.requires.valid c.requires.images c.requires.sized c.requires.fits c.requires.layout c.in_ok-common.ensures c.in_ok-cores.ensures.count c.in_ok-cores.ensures.each
     (c.start.ensures.world b c.args.images.now c.requires.valid (c.fitting_images.ensures b c.args.images.now c.requires.fits) c.requires.sized) (c.start.ensures.kept b l))

@@ -5,13 +5,13 @@ use Rattle.n2_front.specs.Retire.{retired}
 use Rattle.n2_runs.specs.FlatRun.{act}
 use Rattle.n2_flat.specs.State.{State, CoreState, IsWhole, machine_of, acted_by}
 use Rattle.n2_flat.proofs.Tasked.{on_ok}
-use Rattle.n2_flat.proofs.Whole.{is_at, retired_end, retired_act, stopped_end, there, within, never}
+use Rattle.n2_flat.proofs.Whole.{is_at, state_with, recent_whole, retired_end, retired_act, stopped_end, there, within, never}
 use Rattle.n2_flat.proofs.machine.Flat.retire.Goals as goal
 
 pub retire-requires-clause-at : goal.retire-requires-clause-at
 retire-requires-clause-at c =
     let i = c.self.inside in
-    let s : State = record { board = i.board; common = i.common; cores = i.cores.items } in
+    let s : State = record { board = i.board; common = i.common; cores = i.cores.items; recent = i.recent } in
     let core = c.index_mut-core.result.now in
     let found : slice_get s.cores c.args.k ≡ Some core = there s.cores c.args.k core (within c.args.layout.now s c.args.self.now c.args.k c.self.view_is c.requires.whole c.requires.core) c.index_mut-core.ensures.value in
     let h : IsWhole c.args.layout.now s = subst (λ (x : State). IsWhole c.args.layout.now x) (sym c.self.view_is) c.requires.whole in
@@ -20,7 +20,7 @@ retire-requires-clause-at c =
 pub retire-requires-clause-aligned : goal.retire-requires-clause-aligned
 retire-requires-clause-aligned c =
     let i = c.self.inside in
-    let s : State = record { board = i.board; common = i.common; cores = i.cores.items } in
+    let s : State = record { board = i.board; common = i.common; cores = i.cores.items; recent = i.recent } in
     let core = c.index_mut-core.result.now in
     let found : slice_get s.cores c.args.k ≡ Some core = there s.cores c.args.k core (within c.args.layout.now s c.args.self.now c.args.k c.self.view_is c.requires.whole c.requires.core) c.index_mut-core.ensures.value in
     let h : IsWhole c.args.layout.now s = subst (λ (x : State). IsWhole c.args.layout.now x) (sym c.self.view_is) c.requires.whole in
@@ -29,7 +29,7 @@ retire-requires-clause-aligned c =
 pub returns-then-is_some-clause-done : goal.returns-then-is_some-clause-done
 returns-then-is_some-clause-done c =
     let i = c.self.inside in
-    let s : State = record { board = i.board; common = i.common; cores = i.cores.items } in
+    let s : State = record { board = i.board; common = i.common; cores = i.cores.items; recent = i.recent } in
     let core = c.index_mut-core.result.now in
     let found : slice_get s.cores c.args.k ≡ Some core = there s.cores c.args.k core (within c.args.layout.now s c.args.self.now c.args.k c.self.view_is c.requires.whole c.requires.core) c.index_mut-core.ensures.value in
     let h : IsWhole c.args.layout.now s = subst (λ (x : State). IsWhole c.args.layout.now x) (sym c.self.view_is) c.requires.whole in
@@ -40,7 +40,7 @@ returns-then-is_some-clause-done c =
 pub returns-clause-done : goal.returns-clause-done
 returns-clause-done c =
     let i = c.self.inside in
-    let s : State = record { board = i.board; common = i.common; cores = i.cores.items } in
+    let s : State = record { board = i.board; common = i.common; cores = i.cores.items; recent = i.recent } in
     let core = c.index_mut-core.result.now in
     let found : slice_get s.cores c.args.k ≡ Some core = there s.cores c.args.k core (within c.args.layout.now s c.args.self.now c.args.k c.self.view_is c.requires.whole c.requires.core) c.index_mut-core.ensures.value in
     let h : IsWhole c.args.layout.now s = subst (λ (x : State). IsWhole c.args.layout.now x) (sym c.self.view_is) c.requires.whole in
@@ -54,8 +54,10 @@ returns-clause-done c =
 pub returns-clause-whole : goal.returns-clause-whole
 returns-clause-whole c =
     let i = c.self.inside in
-    let s : State = record { board = i.board; common = i.common; cores = i.cores.items } in
+    let s : State = record { board = i.board; common = i.common; cores = i.cores.items; recent = i.recent } in
     let core = c.index_mut-core.result.now in
     let found : slice_get s.cores c.args.k ≡ Some core = there s.cores c.args.k core (within c.args.layout.now s c.args.self.now c.args.k c.self.view_is c.requires.whole c.requires.core) c.index_mut-core.ensures.value in
     let h : IsWhole c.args.layout.now s = subst (λ (x : State). IsWhole c.args.layout.now x) (sym c.self.view_is) c.requires.whole in
-    retired_end c.args.layout.now s c.args.k core c.retire.new.self c.retire.new.common c.retire.result h found c.retire.ensures.done c.retire.ensures.same c.retire.ensures.common c.retire.ensures.wiring c.retire.ensures.watched
+    recent_whole c.args.layout.now (state_with s c.args.k c.retire.new.self c.retire.new.common) c.retire.new.recent
+    (retired_end c.args.layout.now s c.args.k core c.retire.new.self c.retire.new.common c.retire.result h found c.retire.ensures.done c.retire.ensures.same c.retire.ensures.common c.retire.ensures.wiring c.retire.ensures.watched)
+    c.retire.ensures.recent

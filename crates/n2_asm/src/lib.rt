@@ -12,6 +12,3 @@ pub use faults::AsmFault;
 pub use n2_statement::AsmKind;
 pub use naming::put_fault;
 pub use objects::{Object, assemble};
-
-#[cfg(test)]
-mod tests;

@@ -6,8 +6,6 @@ ghost use Rattle.std.specs.Option.{option_copied};
 ghost use Rattle.n2_dcache.specs.Cache.{opened};
 
 pub mod laws;
-#[cfg(test)]
-mod tests;
 
 use n2_word::{NoMemory, Width, extract, line_of, merge};
 use std::alloc::Global;

@@ -7,6 +7,3 @@ mod operands;
 
 pub use lines::{line_text, put_line, put_listing};
 pub use operands::{Operand, Operands};
-
-#[cfg(test)]
-mod tests;

@@ -3,9 +3,6 @@
 
 ghost use Rattle.std.specs.Prelude.{◌≡◌, ◌<◌, IsTrue, IfOk, length};
 
-#[cfg(test)]
-mod tests;
-
 use n2_dcache::DCache;
 use n2_word::{NoMemory, line_of};
 use std::alloc::Global;

@@ -8,8 +8,6 @@ mod journal;
 pub mod laws;
 mod reading;
 mod rows;
-#[cfg(test)]
-mod tests;
 mod writing;
 
 pub use entry::Entry;

@@ -1,6 +1,6 @@
 //! Words with texts that were made by hand after the instruction table.
 
-use super::*;
+use n2_dis::{line_text, put_listing};
 use n2_elf::Image;
 use std::test::Fail;
 

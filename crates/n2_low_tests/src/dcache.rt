@@ -1,5 +1,6 @@
-use super::*;
-use n2_word::{aligned, set_of};
+use n2_dcache::{DCache, Held};
+use n2_word::{NoMemory, Width, aligned, line_of, set_of};
+use std::alloc::Global;
 use std::process::Abort;
 use std::test::Fail;
 

@@ -1,5 +1,5 @@
-use super::*;
 use n2_bus::{Reply, Request};
+use n2_journal::{Entry, Journal};
 use n2_word::Width;
 use std::test::Fail;
 

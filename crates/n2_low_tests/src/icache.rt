@@ -1,4 +1,6 @@
-use super::*;
+use n2_icache::ICache;
+use n2_word::NoMemory;
+use std::alloc::Global;
 use std::process::Abort;
 use std::test::Fail;
 

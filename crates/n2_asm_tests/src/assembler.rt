@@ -1,6 +1,6 @@
 //! Sources with words that were made by hand after the instruction table.
 
-use super::*;
+use n2_asm::{AsmFault, AsmKind, assemble};
 use std::alloc::Global;
 use std::test::Fail;
 

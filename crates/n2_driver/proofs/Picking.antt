@@ -1,10 +1,18 @@
 -- Who is over, and the next turn of a chosen order.
-use Rattle.std.proofs.Common.{◌≡◌, ◌≢◌, ℕ, zero, suc, ◌+◌, ◌++◌, Bool, false, cond, eqb, List, [], ◌∷◌, length, slice_get, slice_set, Option, Some, None, refl, sym, ap, ◌∙◌, arith, length-set}
+use Rattle.std.proofs.Common.{◌≡◌, ◌≢◌, ℕ, zero, suc, ◌+◌, ◌++◌, Bool, true, false, not, cond, eqb, List, [], ◌∷◌, length, slice_get, slice_set, Option, Some, None, refl, sym, ap, ◌∙◌, arith, length-set}
+use Rattle.std.proofs.lemmas.Bool.{false≢true, eq-eqb}
 use Rattle.std.proofs.lemmas.Bool.Decides.{nat_tests}
 use Rattle.n2_parts.specs.declared.board.Board.{Board}
+use Rattle.n2_parts.specs.declared.board.CoreRow.{CoreRow}
+use Rattle.n2_parts.specs.declared.board.DeviceEvent.{DeviceEvent}
+use Rattle.n2_parts.specs.declared.stops.Stop.{Stop}
+use Rattle.n2_bus.specs.declared.request.Request.{Request}
+use Rattle.n2_journal.specs.declared.entry.Entry.{Entry}
+use Rattle.n2_front.specs.Core.{Core, stop_of}
+use Rattle.n2_front.specs.Turn.{CoreTurn, core_turn}
 use Rattle.n2_board.specs.AddressMap.{AddressMap}
 use Rattle.n2_order.specs.Choices.{State, next_of}
-use Rattle.n2_runs.specs.Machine.{Machine, turn, run, script_is_over, core_is_over, is_over}
+use Rattle.n2_runs.specs.Machine.{Machine, Made, unmoved, local_made, entered, full_made, entry_of, made_by, core_made, core_of, script_made, has_room, turn, run, script_is_over, core_is_over, is_over}
 use Rattle.n2_runs.proofs.Lists.{set_each}
 use Rattle.n2_runs.proofs.Books.{other_core}
 use Rattle.n2_driver.specs.Chosen.{overs_from, overs, then_chosen, chosen}
@@ -51,6 +59,59 @@ other_over b map m actor j ne core =
   where
     apart : eqb j (length b.core) ≡ false
     apart = grind (arith, nat_tests)
+
+-- ---- once the device actor is over it stays so
+
+not_room : (room : Bool) → not room ≡ true → room ≡ false
+not_room true e = absurd (false≢true e)
+not_room false e = refl
+
+script_stays : (b : Board) (m n : Machine) (script : List DeviceEvent) → (has_room b m ≡ false → has_room b n ≡ false) → script_is_over b m script ≡ true → script_is_over b n script ≡ true
+script_stays b m n [] room h = refl
+script_stays b m n (event ∷ script) room h = ap (λ (x : Bool). not x) (room (not_room (has_room b m) h))
+
+module _ (b : Board) (map : AddressMap) (m : Machine) (k : ℕ) (h : script_is_over b m m.script ≡ true) where
+  abbrev IsOverIn : Made → Type 0
+  IsOverIn x = script_is_over b x.machine x.machine.script ≡ true
+
+  no_event : (room : Bool) (x : Made) → not room ≡ true → IsOverIn (cond room x (unmoved m))
+  no_event true x e = absurd (false≢true e)
+  no_event false x e = h
+
+  script_over : (script : List DeviceEvent) → script_is_over b m script ≡ true → IsOverIn (script_made b map m script)
+  script_over [] e = h
+  script_over (event ∷ script) e = no_event (has_room b m) _ e
+
+  transfer_over : (c : Core) (t : CoreTurn) (entry : Entry) (room : Bool) → has_room b m ≡ room → IsOverIn (cond room (entered m k t entry) (full_made m k c))
+  transfer_over c t entry true r = script_stays b m (entered m k t entry).machine m.script (λ e. absurd (false≢true (sym e ∙ r))) h
+  transfer_over c t entry false r = script_stays b m (full_made m k c).machine m.script (λ e. e) h
+
+  made_over : (c : Core) (t : CoreTurn) (o : Option Request) → IsOverIn (made_by b m k c t o)
+  made_over c t None = script_stays b m (local_made m k t).machine m.script (λ e. e) h
+  made_over c t (Some request) = transfer_over c t (entry_of k c t request) (has_room b m) refl
+
+  core_over : (row : CoreRow) (c : Core) (o : Option Stop) → IsOverIn (core_made b map m k row c o)
+  core_over row c None = (let t = core_turn b map k row c m.world in made_over c t t.request)
+  core_over row c (Some stop) = h
+
+  either_over : (r : Option CoreRow) (o : Option Core) → IsOverIn (core_of b map m k r o)
+  either_over (Some row) (Some c) = core_over row c (stop_of c)
+  either_over (Some row) None = h
+  either_over None o = h
+
+  actor_over : (own : Bool) → IsOverIn (cond own (script_made b map m m.script) (core_of b map m k (slice_get b.core k) (slice_get m.cores k)))
+  actor_over true = script_over m.script h
+  actor_over false = either_over (slice_get b.core k) (slice_get m.cores k)
+
+  turn_over : IsOverIn (turn b map m k)
+  unfolding turn
+  turn_over = actor_over (eqb k (length b.core))
+
+devices_are : (b : Board) (m : Machine) → is_over b m (length b.core) ≡ script_is_over b m m.script
+devices_are b m = ap (λ (x : Bool). cond x (script_is_over b m m.script) (core_is_over (slice_get m.cores (length b.core)))) (eq-eqb (length b.core) (length b.core) refl)
+
+pub devices_stay : (b : Board) (map : AddressMap) (m : Machine) (actor : ℕ) → is_over b m (length b.core) ≡ true → is_over b (turn b map m actor).machine (length b.core) ≡ true
+devices_stay b map m actor h = devices_are b (turn b map m actor).machine ∙ turn_over b map m actor (sym (devices_are b m) ∙ h)
 
 pub zero_more : (j : ℕ) → 0 + j ≡ j
 zero_more j = omega arith

@@ -1,8 +1,8 @@
 //! A run by an order.
 
-ghost use Rattle.std.specs.Prelude.{◌≡◌, ◌+◌, ◌<◌, ◌≤◌, ◌^◌, IfOk, length};
+ghost use Rattle.std.specs.Prelude.{◌≡◌, ◌+◌, ◌<◌, ◌≤◌, ◌^◌, IfOk, length, true};
 ghost use Rattle.n2_parts.specs.Valid.{IsValid};
-ghost use Rattle.n2_runs.specs.Machine.{Machine as Caching, run};
+ghost use Rattle.n2_runs.specs.Machine.{Machine as Caching, run, is_over};
 ghost use Rattle.n2_runs.specs.Knows.{IsBookKept};
 ghost use Rattle.n2_smp.specs.Standing.{StandsFor};
 ghost use Rattle.n2_driver.specs.Chosen as spec;
@@ -39,6 +39,19 @@ pub fn who_is_over(alloc: Global, board: &Board, machine: &Machine) -> Result<Ve
     Ok(over)
 }
 
+/// Whether the device actor is over, by whether it was before the turn that was made: once it is, it stays
+/// so.
+#[inline(always)]
+fn devices_over(machine: &Machine, was: bool, devices: u32) -> bool
+    requires { devices ≤ length machine.now.board.core }
+    ensures { (m : Caching) → StandsFor machine.now m → length m.cores ≡ length machine.now.board.core → (was ≡ true → is_over machine.now.board m devices ≡ true) → result ≡ is_over machine.now.board m devices }
+{
+    if was {
+        return true;
+    }
+    machine.over(devices)
+}
+
 /// Runs a machine by an order until all actors are over. `over` tells before the first turn who is over,
 /// and is kept while the machine runs. A turn takes no memory.
 pub fn run_by(machine: &mut Machine, board: &Board, chooser: &mut Chooser, over: &mut [bool])
@@ -58,6 +71,6 @@ pub fn run_by(machine: &mut Machine, board: &Board, chooser: &mut Chooser, over:
         };
         machine.turn(actor);
         over[actor as usize] = machine.over(actor);
-        over[devices as usize] = machine.over(devices);
+        over[devices as usize] = devices_over(machine, over[devices as usize], devices);
     }
 }

@@ -133,12 +133,12 @@ def run_once(program, path, steps, expected):
     seconds = time.perf_counter() - begun
     if os.waitstatus_to_exitcode(status) not in expected:
         raise SystemExit(f"{path}: status {os.waitstatus_to_exitcode(status)}")
-    return seconds, usage.ru_maxrss
+    return seconds, usage.ru_maxrss, usage.ru_stime
 
 
 def run(path, steps, expected=(0, 2)):
     runs = [run_once(PROGRAM, path, steps, expected) for _ in range(5)]
-    return min(seconds for seconds, _ in runs), max(peak for _, peak in runs)
+    return min(seconds for seconds, _, _ in runs), max(peak for _, peak, _ in runs)
 
 
 def write_words(path, words):
@@ -158,13 +158,15 @@ def print_stores(path):
 
 
 def print_beside(old, path):
-    """The loops by this program and by an old one, by turns: the best of 25 runs of each."""
-    print(f"{'1000000 acts':32} {'seconds':>9} {'old':>9} {'ratio':>6}")
+    """The loops by this program and by an old one, by turns: the best of 60 runs of each, and how many of these
+    seconds are the system's, which hands out pages: its mean over the runs."""
+    print(f"{'1000000 acts':32} {'seconds':>9} {'system':>9} {'old':>9} {'system':>9} {'ratio':>6}")
     for name, words in (("arithmetic", arithmetic()), ("memory", memory()), ("branches", branches())):
         write_words(path, words)
-        both = [[run_once(program, path, 1_000_000, (2,))[0] for program in (PROGRAM, old)] for _ in range(25)]
-        new, before = (min(pair[i] for pair in both) for i in (0, 1))
-        print(f"{name + ' loop':32} {new:9.4f} {before:9.4f} {new / before:6.2f}")
+        both = [[run_once(program, path, 1_000_000, (2,)) for program in (PROGRAM, old)] for _ in range(60)]
+        new, before = (min(pair[i][0] for pair in both) for i in (0, 1))
+        pages, pages_before = (sum(pair[i][2] for pair in both) / len(both) for i in (0, 1))
+        print(f"{name + ' loop':32} {new:9.4f} {pages:9.4f} {before:9.4f} {pages_before:9.4f} {new / before:6.2f}")
 
 
 def main():

@@ -127,6 +127,7 @@ module _ (b : Board) (map : AddressMap) (k : ℕ) (s : State) (c : Core) (w othe
         registers = g.registers;
         owned = λ guard. g.owned guard ∙ sym (subst (λ (x : ℕ). owned_by b other.book x guard ≡ owned_by b w.book x guard) (sym h.number) (owns guard));
         pointers = λ index row e t. g.pointers index row e t ∙ sym (points index row e (subst (λ (x : ℕ). IsTrue (row.sender == x)) h.number t));
+        again = g.again;
       }
 
 -- a request that is no access changes nothing of it

@@ -148,6 +148,7 @@ stands_on b map k watch before after past owned pointers h = record {
   registers = h.registers;
   owned = λ guard. h.owned guard ∙ sym (owned guard);
   pointers = λ index row found sends. h.pointers index row found sends ∙ sym (pointers index row found (eqb-true row.sender k sends));
+  again = h.again;
 }
 
 -- ---- mailboxes stay

@@ -80,7 +80,7 @@ impl FlatCore {
 
     /// The stop for a load or store through the cache, if it strays or is refused; else the place where
     /// its note looks for the record of its line first.
-    #[inline(never)]
+    #[inline(always)]
     pub fn judge_cached(
         &self,
         layout: &Layout,

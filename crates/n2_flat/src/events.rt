@@ -59,10 +59,11 @@ impl Events {
         ensures ok { OnOk result (self.new ≡ event ∷ self.old) }
         ensures err { OnErr result (self.new ≡ self.old) }
     {
-        match self.inner.push(event) {
-            Ok(()) => Ok(()),
-            Err(_) => Err(NoMemory),
+        if self.inner.reserve(1).is_err() {
+            return Err(NoMemory);
         }
+        self.inner.push_reserved(event);
+        Ok(())
     }
 
     /// Takes the newest event back.

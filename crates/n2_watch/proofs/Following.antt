@@ -22,6 +22,7 @@ use Rattle.n2_watch.specs.Watched.{Watched, StandsFor, IsGuardOf}
 use Rattle.n2_watch.specs.Noted.{IsOwnerNoted, IsGuardNoted, IsPointerNoted}
 use Rattle.n2_watch.proofs.KeptLists.{get-set_same, get-set_other}
 use Rattle.n2_watch.proofs.Owners.{one_guard}
+use Rattle.n2_watch.proofs.Again.{forgotten}
 
 -- two guards have two slots
 slot_apart : (g h : Guard) → same_guard g h ≡ false → slot_of g ≢ slot_of h
@@ -67,6 +68,7 @@ module _ (b : Board) (map : AddressMap) (k : ℕ) (before after : Book) (past : 
         registers = h.registers;
         owned = λ guard. h.owned guard ∙ sym (own guard);
         pointers = λ index row e s. h.pointers index row e s ∙ sym (points index row e s);
+        again = h.again;
       })
 
   -- one guard is owned from now on, or no more
@@ -85,6 +87,7 @@ module _ (b : Board) (map : AddressMap) (k : ℕ) (before after : Book) (past : 
     registers = λ index m. (let e = ap (λ (p : List ℕ). length p) n.pointers in omega (arith, h.registers index m, e));
     owned = λ other. flag other (same_guard other guard) refl;
     pointers = λ index row e s. ap (λ (p : List ℕ). get_or p index 0) n.pointers ∙ h.pointers index row e s ∙ sym (points index row e s);
+    again = forgotten map new _ n.forgotten;
   }
     where
       n : IsGuardNoted guard owns old new
@@ -112,6 +115,7 @@ module _ (b : Board) (map : AddressMap) (k : ℕ) (before after : Book) (past : 
         registers = λ i m. (let e = ap (λ (p : List ℕ). length p) n.pointers ∙ length-set old.pointers index value in omega (arith, h.registers i m, e));
         owned = λ guard. ap (λ (l : List Bool). get_or l (slot_of guard) false) n.owned ∙ h.owned guard ∙ sym (own guard);
         pointers = λ i row e s. register i row e s;
+        again = forgotten map new past n.forgotten;
       })
     where
       register : (i : ℕ) (row : MailboxRow) → slice_get b.mailbox i ≡ Some row → IsTrue (eqb row.sender k) → get_or new.pointers i 0 ≡ pointer_of after i

@@ -110,9 +110,9 @@ judged_bypass b map who access address store value width o e n h =
     subst (λ a. (breach b map who a width ≡ Some Strays → ⊥) → o ≡ broken_at (address_of a) (breach b map who a width)) (sym e)
     (λ m. h ∙ ap (λ x. broken_at address x) (sym (bypass_word b map who address store value width m))) n
 
-touched : (b : Board) (map : AddressMap) (who : Knowledge) (address : ℕ) (store : Bool) (width : Width) → breach b map who (accesses.Cached address store) width ≡ cached_breach map who (data_target map who.core address width Cached (direction store)) (line address)
+pub cached_is : (b : Board) (map : AddressMap) (who : Knowledge) (address : ℕ) (store : Bool) (width : Width) → breach b map who (accesses.Cached address store) width ≡ cached_breach map who (data_target map who.core address width Cached (direction store)) (line address)
 unfolding breach
-touched b map who address store width = refl
+cached_is b map who address store width = refl
 
 fetched : (b : Board) (map : AddressMap) (who : Knowledge) (address : ℕ) (width : Width) → breach b map who (accesses.Fetch address) width ≡ option_map (λ wrong. violation wrong (line address)) (fetch_violation map address)
 unfolding breach
@@ -188,4 +188,4 @@ same_breach b map w book past h access width =
 
 pub touch_judged : (b : Board) (map : AddressMap) (w : Watched) (book : Book) (past : List Past) → StandsFor b map w.core w book past → (address : ℕ) (store : Bool) (width : Width) (r : Option Breach) → r ≡ cached_breach map (known w past) (data_target map w.core address width Cached (direction store)) (line address) → r ≡ breach b map (knowledge b book w.core past) (accesses.Cached address store) width
 touch_judged b map w book past h address store width r e =
-    e ∙ sym (touched w.board map (known w past) address store width) ∙ same_breach b map w book past h (accesses.Cached address store) width
+    e ∙ sym (cached_is w.board map (known w past) address store width) ∙ same_breach b map w book past h (accesses.Cached address store) width

@@ -21,6 +21,7 @@ mod Walking
 mod RecordNotes
 mod Judging
 mod Noting
+mod Again
 mod Building
 mod Nexts
 mod Starting

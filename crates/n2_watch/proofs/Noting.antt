@@ -1,5 +1,5 @@
 -- What a note keeps of a watch.
-use Rattle.std.proofs.Common.{◌≡◌, ℕ, Bool, true, false, List, ◌∷◌, length, get_or, None, Result, Ok, Err, refl, ap, ◌∙◌, subst, arith}
+use Rattle.std.proofs.Common.{◌≡◌, ℕ, ◌^◌, ◌<◌, Bool, true, false, List, ◌∷◌, length, get_or, None, Result, Ok, Err, refl, ap, ◌∙◌, subst, arith}
 use Rattle.n2_word.specs.declared.Width.{Width}
 use Rattle.n2_word.specs.Lines.{line, without_bypass}
 use Rattle.n2_parts.specs.declared.board.Board.{Board}
@@ -26,11 +26,11 @@ use Rattle.n2_watch.specs.Book.{Book, knowledge}
 use Rattle.n2_watch.specs.Discipline.{Knowledge, direction, cached_breach, breach}
 use Rattle.n2_watch.specs.Table.{Table, slot_of}
 use Rattle.n2_watch.specs.Stands.{LinesStand, IsNoted}
-use Rattle.n2_watch.specs.Watched.{Watched, StandsFor, IsWatchNoted, is_touchable}
+use Rattle.n2_watch.specs.Watched.{Watched, StandsFor, IsWatchNoted, PassesAgain, is_again, is_touchable}
 
 -- a watch whose table alone changed stands for what its new table stands for
-pub noted_stands : (b : Board) (map : AddressMap) (core : ℕ) (old new : Watched) (book : Book) (past after : List Past) → StandsFor b map core old book past → IsWatchNoted old new → LinesStand map new.table after → StandsFor b map core new book after
-noted_stands b map core old new book past after h n l = record {
+pub noted_stands : (b : Board) (map : AddressMap) (core : ℕ) (old new : Watched) (book : Book) (past after : List Past) → StandsFor b map core old book past → IsWatchNoted old new → LinesStand map new.table after → ((number : ℕ) (store : Bool) → is_again new number store ≡ true → PassesAgain map new after number store) → StandsFor b map core new book after
+noted_stands b map core old new book past after h n l again = record {
   map_of = h.map_of;
   board = n.board ∙ h.board;
   core_is = n.core_is ∙ h.core_is;
@@ -42,6 +42,7 @@ noted_stands b map core old new book past after h n l = record {
   registers = λ index m. (let e = ap (λ (p : List ℕ). length p) n.pointers in omega (arith, h.registers index m, e));
   owned = λ guard. ap (λ (o : List Bool). get_or o (slot_of guard) false) n.owned ∙ h.owned guard;
   pointers = λ index row e s. ap (λ (p : List ℕ). get_or p index 0) n.pointers ∙ h.pointers index row e s;
+  again = again;
 }
 
 -- ---- a load or store that passes is of a line that the core may touch
@@ -54,7 +55,7 @@ allowed_touches (classes.Passed region) core d h = refl
 allowed_touches classes.Uncached core d h = absurd (cc)
 allowed_touches classes.Absent core d h = absurd (cc)
 
-memory_allows : (allowed : Bool) (t : Target) → memory_target allowed ≡ Ok t → allowed ≡ true
+pub memory_allows : (allowed : Bool) (t : Target) → memory_target allowed ≡ Ok t → allowed ≡ true
 memory_allows true t h = refl
 memory_allows false t h = absurd (cc)
 
@@ -84,10 +85,10 @@ passed_reaches b map who address store width h =
     record { memory = t.0; touchable = t.1 }
 
 -- a watch whose parts are known, with another table
-pub noted_in : (board : Board) (core cpuid : ℕ) (table : Table) (owned : List Bool) (pointers : List ℕ) (now : Watched) (new : Table) → record { board = board; core = core; cpuid = cpuid; table = table; owned = owned; pointers = pointers } ≡ now → IsNoted table new → IsWatchNoted now (record { board = board; core = core; cpuid = cpuid; table = new; owned = owned; pointers = pointers })
-noted_in board core cpuid table owned pointers now new e n =
-    subst (λ w. IsWatchNoted w (record { board = board; core = core; cpuid = cpuid; table = new; owned = owned; pointers = pointers })) e
-    (record { board = refl; core_is = refl; cpuid = refl; owned = refl; pointers = refl; table = n })
+pub noted_in : (board : Board) (core cpuid : ℕ) (table : Table) (owned : List Bool) (pointers : List ℕ) (touched : List ℕ) (stored : List Bool) (now new : Watched) → record { board = board; core = core; cpuid = cpuid; table = table; owned = owned; pointers = pointers; touched = touched; stored = stored } ≡ now → new.board ≡ board → new.core ≡ core → new.cpuid ≡ cpuid → new.owned ≡ owned → new.pointers ≡ pointers → IsNoted table new.table → IsWatchNoted now new
+noted_in board core cpuid table owned pointers touched stored now new e b c u o p n =
+    subst (λ w. IsWatchNoted w new) e
+    (record { board = b; core_is = c; cpuid = u; owned = o; pointers = p; table = n })
 
 -- ---- what was done is named once
 

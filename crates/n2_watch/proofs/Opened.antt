@@ -22,10 +22,11 @@ use Rattle.n2_watch.specs.declared.runs.Run.{Run}
 use Rattle.n2_watch.specs.Book.{first_holder, start_book, owns_state, owned_by, pointer_of, cpuid_of, sets_of}
 use Rattle.n2_watch.specs.Table.{Table, slot_of, opened_table}
 use Rattle.n2_watch.specs.Stands.{AreBuilt, IsRecorded, LinesStand}
-use Rattle.n2_watch.specs.Watched.{Watched, IsMapOf, IsGuardOf, StandsFor, is_touchable}
+use Rattle.n2_watch.specs.Watched.{Watched, IsMapOf, IsGuardOf, StandsFor, is_touchable, none_touched}
 use Rattle.n2_watch.specs.Opened.{slot_count, is_held, is_held_first}
 use Rattle.n2_watch.proofs.KeptLists.{element_at}
 use Rattle.n2_word.proofs.Masks.{power_of_sets}
+use Rattle.n2_watch.proofs.Again.{forgotten}
 use Rattle.n2_watch.proofs.Starting.{start_stands, zeros, nothing_cleaned, length_zeros}
 
 -- ---- flags by slots
@@ -107,6 +108,7 @@ pub record IsOpened (b : Board) (map' : AddressMap) (core : ℕ) (w : Watched) (
   pub mutexes : (m : ℕ) → get_or w.owned (2 * m + 1) false ≡ false
   pub regions : (r : ℕ) → get_or w.owned (2 * r + 2) false ≡ is_held_first core b.region r
   pub pointers : w.pointers ≡ zeros (length b.mailbox)
+  pub forgotten : w.touched ≡ none_touched
 
 pub opened_stands : (b : Board) (map' : AddressMap) (core : ℕ) (w : Watched) (runs : List Run) (records : List Record) (bound sets : ℕ) → IsOpened b map' core w runs records bound sets → StandsFor b map' core w (start_book b) []
 opened_stands b map' core w runs records bound sets o = record {
@@ -121,4 +123,5 @@ opened_stands b map' core w runs records bound sets o = record {
   registers = λ index m. (let e = ap (λ (p : List ℕ). length p) o.pointers ∙ length_zeros (length b.mailbox) in omega (arith, e));
   owned = owned_at_start b core w.owned o.mutexes o.regions;
   pointers = λ i row e s. ap (λ (p : List ℕ). get_or p i 0) o.pointers ∙ nothing_cleaned (length b.mailbox) i ∙ sym (pointer_at_start b i);
+  again = forgotten map' w [] o.forgotten;
 }

@@ -13,7 +13,7 @@ use Rattle.n2_watch.specs.Book.{region_at, noted}
 use Rattle.n2_watch.specs.Table.{Table, slot_of}
 use Rattle.n2_watch.specs.Stands.{LinesStand, IsNoted}
 use Rattle.n2_watch.specs.Shapes.{BypassAccess}
-use Rattle.n2_watch.specs.Watched.{Watched, IsGuardOf}
+use Rattle.n2_watch.specs.Watched.{Watched, IsGuardOf, none_touched}
 
 -- a load of a word past the caches, and a store
 abbrev pub word_access : ℕ → Option ℕ → BypassAccess
@@ -32,20 +32,21 @@ pub record IsOwnerNoted (guard : Guard) (before after : Bool) (old new : Table) 
   pub table : IsNoted old new
   pub lines : (map : AddressMap) (past : List Past) → LinesStand map old past → LinesStand map new (noted guard before after past)
 
--- a guard with a slot is owned from now on, or no more
+-- a guard with a slot is owned from now on, or no more, and all touches are forgotten
 pub record IsGuardNoted (guard : Guard) (owns : Bool) (old new : Watched) : Type 0 where
   pub board : new.board ≡ old.board
   pub core_is : new.core ≡ old.core
   pub cpuid : new.cpuid ≡ old.cpuid
   pub pointers : new.pointers ≡ old.pointers
   pub owned : new.owned ≡ slice_set old.owned (slot_of guard) owns
+  pub forgotten : new.touched ≡ none_touched
   pub records : IsOwnerNoted guard (get_or old.owned (slot_of guard) false) owns old.table new.table
 
 -- what is noted of a guard of the board
 abbrev pub IsGuardOwned : Guard → Bool → Watched → Watched → Type 0
 IsGuardOwned guard owns old new = IsGuardOf old.board guard → IsGuardNoted guard owns old new
 
--- a Pointer register is written
+-- a Pointer register is written, and all touches are forgotten
 pub record IsPointerNoted (index value : ℕ) (old new : Watched) : Type 0 where
   pub board : new.board ≡ old.board
   pub core_is : new.core ≡ old.core
@@ -53,6 +54,7 @@ pub record IsPointerNoted (index value : ℕ) (old new : Watched) : Type 0 where
   pub table : new.table ≡ old.table
   pub owned : new.owned ≡ old.owned
   pub pointers : new.pointers ≡ slice_set old.pointers index value
+  pub forgotten : new.touched ≡ none_touched
 
 -- a passed region, if there is one, is owned from now on or no more
 abbrev pub IsRegionOwned : Option ℕ → Bool → Watched → Watched → Type 0

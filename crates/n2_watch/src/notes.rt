@@ -20,7 +20,7 @@ ghost use Rattle.n2_watch.specs.Watched.{StandsFor, IsWatchNoted, IsGuardOf};
 ghost use Rattle.n2_watch.specs.World.{World};
 
 use crate::records::{Records, slot_of};
-use crate::watch::Watch;
+use crate::watch::{NONE_TOUCHED, Watch};
 use n2_board::{Board, Class, Guard, Layout, Part, PartKind, Place};
 use n2_insn::DataOp;
 use n2_word::line_of;
@@ -107,10 +107,9 @@ fn note_owner(records: &mut Records, guard: Guard, before: bool, after: bool)
 }
 
 impl Watch {
-    /// Notes a load or store of a line through the cache, while the clock has room. The access was
-    /// judged before and passed, with the place where the record of its line is looked for first.
+    /// Notes a load or store of a line that is not as one that was noted.
     #[inline(always)]
-    pub fn note_touched_at(&mut self, place: u32, line: u32, store: bool)
+    fn note_another(&mut self, place: u32, line: u32, store: bool)
         requires { self.old.table.clock + 1 < 2 ^ 64 }
         ensures once { IsNotedOnce self.old self.new }
         ensures noted { IsWatchNoted self.old self.new }
@@ -118,6 +117,26 @@ impl Watch {
     {
         n2_board::laws::in_memory();
         self.records.note_touch_at(place, line, store);
+        let at = (line % 4) as usize;
+        self.touched[at] = u64::from(line) + 1;
+        self.stored[at] = store;
+    }
+
+    /// Notes a load or store of a line through the cache, while the clock has room. The access was
+    /// judged before and passed, with the place where the record of its line is looked for first. What
+    /// is as one that was noted changes no record.
+    #[inline(always)]
+    pub fn note_touched_at(&mut self, place: u32, line: u32, store: bool)
+        requires { self.old.table.clock + 1 < 2 ^ 64 }
+        ensures once { IsNotedOnce self.old self.new }
+        ensures noted { IsWatchNoted self.old self.new }
+        ensures stands { (b : BoardValue) (map : AddressMap) (book : Book) (past : List PastEvent) (address : ℕ) (width : WidthValue) → StandsFor b map self.old.core self.old book past → line ≡ line_number address → rules.breach b map (knowledge b book self.old.core past) (accesses.Cached address store) width ≡ None → StandsFor b map self.old.core self.new book (Touch line store ∷ past) }
+    {
+        if self.is_again(line, store) {
+            self.records.note_other();
+        } else {
+            self.note_another(place, line, store);
+        }
     }
 
     /// A data cache operation.
@@ -127,6 +146,7 @@ impl Watch {
         ensures stands { (b : BoardValue) (map : AddressMap) (book : Book) (past : List PastEvent) → StandsFor b map self.old.core self.old book past → StandsFor b map self.old.core self.new book (Clean op address ∷ past) }
     {
         self.records.note_clean(op, address);
+        self.touched = NONE_TOUCHED;
     }
 
     /// A guard is owned from now on, or no more.
@@ -141,6 +161,7 @@ impl Watch {
             let before = is_owned(self.owned.as_slice(), slot);
             note_owner(&mut self.records, guard, before, owns);
             set_owned(self.owned.as_mut_slice(), slot, owns);
+            self.touched = NONE_TOUCHED;
         }
     }
 
@@ -165,6 +186,7 @@ impl Watch {
         if (mailbox as usize) < self.pointers.len() {
             self.pointers[mailbox as usize] = value;
         }
+        self.touched = NONE_TOUCHED;
     }
 
     /// The Pointer register of a mailbox.

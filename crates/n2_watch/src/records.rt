@@ -335,6 +335,7 @@ impl Records {
     }
 
     /// A note that changes no record.
+    #[inline(always)]
     fn pass(&mut self)
         requires { self.old.clock + 1 < 2 ^ 64 }
         ensures { self.new ≡ after_other self.old }
@@ -509,7 +510,8 @@ impl Records {
         self.get_slot(slot as usize);
     }
 
-    /// A guard that is owned no more, or no event.
+    /// A guard that is owned no more, no event, or a touch that changes no record.
+    #[inline(always)]
     pub fn note_other(&mut self)
         requires { self.old.clock + 1 < 2 ^ 64 }
         ensures noted { IsNoted self.old self.new }

@@ -20,7 +20,7 @@ ghost use Rattle.n2_watch.specs.Stands.{LinesStand};
 ghost use Rattle.n2_watch.specs.Discipline as rules;
 ghost use Rattle.n2_parts.specs.declared.board.Board.{Board as BoardValue};
 ghost use Rattle.n2_watch.specs.Book.{Book, start_book, knowledge};
-ghost use Rattle.n2_watch.specs.Watched.{IsMapOf, StandsFor, known, broken_at, address_of};
+ghost use Rattle.n2_watch.specs.Watched.{IsMapOf, StandsFor, known, no_place, is_again, broken_at, address_of};
 
 use crate::access::{Access, Broken, Judged};
 use crate::opening::{SLOTS, cpuid_of, open_lines, open_owned, open_pointers, sets_of};
@@ -43,14 +43,21 @@ pub struct Watch {
     pub(crate) records: Records,
     pub(crate) owned: Vec<bool>,
     pub(crate) pointers: Vec<u32>,
+    pub(crate) touched: [u64; 4],
+    pub(crate) stored: [bool; 4],
 }
+
+/// No line was touched.
+pub(crate) const NONE_TOUCHED: [u64; 4] = [0; 4];
+/// Stands for no place of a record.
+const NO_PLACE: u32 = u32::MAX;
 
 impl Model for Watch {
     ghost use Rattle.n2_watch.specs.Watched.{Watched};
 
     ghost Value = { Watched };
 
-    ghost view = { λ w. record { board = w.board; core = w.core; cpuid = w.cpuid; table = w.records; owned = w.owned.items; pointers = w.pointers.items } };
+    ghost view = { λ w. record { board = w.board; core = w.core; cpuid = w.cpuid; table = w.records; owned = w.owned.items; pointers = w.pointers.items; touched = w.touched; stored = w.stored } };
 }
 
 /// The guard that a class names.
@@ -190,6 +197,8 @@ impl Watch {
             records,
             owned,
             pointers,
+            touched: NONE_TOUCHED,
+            stored: [false; 4],
         })
     }
 
@@ -271,7 +280,7 @@ impl Watch {
     }
 
     /// A load or store through the cache, by the rules on what the watch knows.
-    #[inline(always)]
+    #[inline(never)]
     fn judge_touch(&self, layout: &Layout, address: u32, width: Width, store: bool) -> Judged
         ensures address { IsRefusedAt address result }
         ensures breach { (past : List PastEvent) → LinesStand layout.now self.now.table past → breach_of result ≡ rules.cached_breach layout.now (known self.now past) (data_target layout.now self.now.core address width Route.Cached (rules.direction store)) (line_number address) }
@@ -283,14 +292,47 @@ impl Watch {
         }
     }
 
+    /// The place of the record of the line of an address of a memory, where a load or store through the
+    /// cache passes; `NO_PLACE` where that is to be judged. A number is answered in a register.
+    #[inline(never)]
+    fn passing_place(&self, layout: &Layout, address: u32, store: bool) -> u32
+        ensures { (past : List PastEvent) (width : WidthValue) → LinesStand layout.now self.now.table past → result ≢ no_place → None ≡ rules.cached_breach layout.now (known self.now past) (data_target layout.now self.now.core address width Route.Cached (rules.direction store)) (line_number address) }
+    {
+        let line = line_of(address);
+        match layout.memory_class(line) {
+            Some(class) => match self.judge_class(class, address, line, store) {
+                Judged::Passed(place) => place,
+                Judged::Refused(_) => NO_PLACE,
+                Judged::Stray => NO_PLACE,
+            },
+            None => NO_PLACE,
+        }
+    }
+
+    /// Whether a load or store of a line is as one that was noted since anything but touches was.
+    #[inline(always)]
+    pub(crate) fn is_again(&self, line: u32, store: bool) -> bool
+        ensures { result ≡ is_again self.now line store }
+    {
+        let place = (line % 4) as usize;
+        u64::from(line) + 1 == self.touched[place] && (!store || self.stored[place])
+    }
+
     /// What the discipline says of a load or store through the cache, in a layout of the board that
-    /// the watch was opened with. An access of memory takes one look in the layout and one search for
-    /// the record of its line.
+    /// the watch was opened with. What is as one that was noted passes at once; any other access of memory
+    /// takes one look in the layout and one search for the record of its line.
     #[inline(always)]
     pub fn judge_cached(&self, layout: &Layout, address: u32, width: Width, store: bool) -> Judged
         ensures address { IsRefusedAt address result }
         ensures breach { (b : BoardValue) (book : Book) (past : List PastEvent) → StandsFor b layout.now self.now.core self.now book past → breach_of result ≡ rules.breach b layout.now (knowledge b book self.now.core past) (accesses.Cached address store) width }
     {
+        if self.is_again(line_of(address), store) {
+            return Judged::Passed(0);
+        }
+        let place = self.passing_place(layout, address, store);
+        if place != NO_PLACE {
+            return Judged::Passed(place);
+        }
         self.judge_touch(layout, address, width, store)
     }
 

@@ -14,4 +14,5 @@ returns c = λ b map core w book other past h owns points. record {
   registers = h.registers;
   owned = λ guard. h.owned guard ∙ owns guard;
   pointers = λ index row e s. h.pointers index row e s ∙ points index row e s;
+  again = h.again;
 }

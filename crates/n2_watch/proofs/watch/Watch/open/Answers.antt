@@ -34,5 +34,6 @@ returns-clause-stands c =
       slots = c.in_ok-owned.ensures.slots;
       mutexes = c.in_ok-owned.ensures.mutexes;
       regions = λ r. c.in_ok-owned.ensures.regions r ∙ ap (λ (rows : List RegionRow). is_held_first c.args.core rows r) c.as_slice-2.ensures;
+      forgotten = refl;
       pointers = c.in_ok-pointers.ensures ∙ ap (λ (n : ℕ). zeros n) c.len.ensures;
     })

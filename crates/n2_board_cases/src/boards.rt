@@ -30,31 +30,20 @@ fn board_in(alloc: Global, text: &[u8], out: &mut Vec<u8>) -> Result<Option<Boar
     }
 }
 
-/// `board TEXT`: whether the board of a text is valid, or what is wrong with the text.
-pub fn board(alloc: Global, field: &str, out: &mut Vec<u8>) -> Result<(), NoAnswer> {
-    match board_of(alloc, field, out)? {
-        Some(_) => put(out, "valid"),
-        None => Ok(()),
-    }
-}
-
-/// `parts TEXT`: the numbers and parts of a copy of the board of a text.
-pub fn parts(alloc: Global, field: &str, out: &mut Vec<u8>) -> Result<(), NoAnswer> {
-    match board_of(alloc, field, out)? {
-        Some(board) => put_copy(alloc, &board, out),
-        None => Ok(()),
-    }
-}
-
-fn put_copy(alloc: Global, board: &Board, out: &mut Vec<u8>) -> Result<(), NoAnswer> {
-    let copy = board.copy(alloc)?;
-    if valid(&copy).is_err() {
-        put(out, "not valid: ")?;
-    }
-    put_board(&copy, out)
+/// `parts TEXT`: the numbers and parts of a copy of the board of a text. (`board TEXT` answers that the
+/// text has a board, or what is wrong with it.)
+pub fn parts(alloc: Global, board: &Board, out: &mut Vec<u8>) -> Result<(), NoAnswer> {
+    put_board(&board.copy(alloc)?, out)
 }
 
 fn put_board(board: &Board, out: &mut Vec<u8>) -> Result<(), NoAnswer> {
+    if valid(board).is_err() {
+        put(out, "not valid: ")?;
+    }
+    put_parts(board, out)
+}
+
+fn put_parts(board: &Board, out: &mut Vec<u8>) -> Result<(), NoAnswer> {
     put_shown(out, "turns ", &board.turns)?;
     put_shown(out, " journal ", &board.journal)?;
     put_rows(out, &board.memory)?;

@@ -5,7 +5,6 @@ ghost use Rattle.std.specs.List.{AllByRecursion};
 ghost use Rattle.n2_elf.specs.Reading.{IsSized};
 ghost use Rattle.n2_parts.specs.Valid.{IsValid};
 
-use crate::boards::board_of;
 use crate::devices::count_in;
 use crate::memories::counted;
 use crate::shared;
@@ -23,20 +22,7 @@ use std::alloc::Global;
 /// ADDRESS`, `write WIDTH ADDRESS VALUE`, `sample`, `tick N`, `receive UART`, or `drain UART`. Between requests,
 /// `line LINE`, `word ADDRESS` and `peek WIDTH ADDRESS` answer what a memory behind the bus holds, and `poke
 /// WIDTH ADDRESS VALUE` stores there.
-pub fn bus(alloc: Global, rest: &str, out: &mut Vec<u8>) -> Result<(), NoAnswer> {
-    let (text, requests) = rest.split_once('|').ok_or(NoAnswer::NoCase)?;
-    match board_of(alloc, text, out)? {
-        Some(board) => put_served(alloc, &board, requests, out),
-        None => Ok(()),
-    }
-}
-
-fn put_served(
-    alloc: Global,
-    board: &Board,
-    requests: &str,
-    out: &mut Vec<u8>,
-) -> Result<(), NoAnswer>
+pub fn bus(alloc: Global, board: &Board, requests: &str, out: &mut Vec<u8>) -> Result<(), NoAnswer>
     requires { IsValid board.now }
 {
     let mut bus = opened(alloc, board)?;

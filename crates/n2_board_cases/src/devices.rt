@@ -2,7 +2,6 @@
 
 ghost use Rattle.n2_parts.specs.Valid.{IsValid};
 
-use crate::boards::board_of;
 use crate::shared;
 use n2_cases::{NoAnswer, number_in, put, put_shown, put_word, word_in, words_of};
 use n2_devices::Devices;
@@ -12,15 +11,7 @@ use std::alloc::Global;
 /// `devices TEXT | STEP | ..`: what the devices of the board of a text answer to one step after
 /// another. A step is `read DEVICE NUMBER OFFSET`, `write DEVICE NUMBER OFFSET WORD`, `tick N`,
 /// `receive UART`, `drain UART`, or `lines CORE`.
-pub fn devices(alloc: Global, rest: &str, out: &mut Vec<u8>) -> Result<(), NoAnswer> {
-    let (text, steps) = rest.split_once('|').ok_or(NoAnswer::NoCase)?;
-    match board_of(alloc, text, out)? {
-        Some(board) => put_played(alloc, &board, steps, out),
-        None => Ok(()),
-    }
-}
-
-fn put_played(alloc: Global, board: &Board, steps: &str, out: &mut Vec<u8>) -> Result<(), NoAnswer>
+pub fn devices(alloc: Global, board: &Board, steps: &str, out: &mut Vec<u8>) -> Result<(), NoAnswer>
     requires { IsValid board.now }
 {
     let mut devices = Devices::open(alloc, board)?;

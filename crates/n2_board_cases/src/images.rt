@@ -3,23 +3,36 @@
 ghost use Rattle.std.specs.Prelude.{◌≡◌, ◌<◌, ◌^◌, IfOk, length};
 ghost use Rattle.n2_elf.specs.Writing.{IsWritable};
 
+use crate::halves;
 use n2_cases::{NoAnswer, bytes_in, put, put_byte, put_shown, put_word, word_in};
 use n2_elf::{ElfFault, Image, Segment, put_fault};
 use n2_text::Items;
 use n2_word::NoMemory;
 use std::alloc::Global;
 
+/// A case of one of the kinds below.
+pub fn answer(alloc: Global, kind: &str, rest: &str, out: &mut Vec<u8>) -> Result<(), NoAnswer> {
+    match kind {
+        "elf" => elf(alloc, rest, out),
+        "raw" => raw(alloc, rest, out),
+        "iself" => is_elf(alloc, rest, out),
+        _ => written(alloc, rest, out),
+    }
+}
+
 /// `elf TEXT`: the image of a file, or its first fault.
-pub fn elf(alloc: Global, field: &str, out: &mut Vec<u8>) -> Result<(), NoAnswer> {
+fn elf(alloc: Global, field: &str, out: &mut Vec<u8>) -> Result<(), NoAnswer> {
     let file = bytes_in(alloc, field)?;
     put_image(&Image::read(alloc, &file), out)
 }
 
 /// `raw WORD TEXT`: the image of a file without a header that lies at an address.
-pub fn raw(alloc: Global, rest: &str, out: &mut Vec<u8>) -> Result<(), NoAnswer> {
-    let (at, text) = rest.split_once(' ').ok_or(NoAnswer::NoCase)?;
-    let at = word_in(at)?;
-    put_image(&raw_image(alloc, &bytes_in(alloc, text)?, at)?, out)
+fn raw(alloc: Global, rest: &str, out: &mut Vec<u8>) -> Result<(), NoAnswer> {
+    let (at, text) = halves(rest, ' ')?;
+    put_image(
+        &raw_image(alloc, &bytes_in(alloc, text)?, word_in(at)?)?,
+        out,
+    )
 }
 
 fn raw_image(alloc: Global, file: &[u8], at: u32) -> Result<Result<Image, ElfFault>, NoAnswer> {
@@ -30,14 +43,14 @@ fn raw_image(alloc: Global, file: &[u8], at: u32) -> Result<Result<Image, ElfFau
 }
 
 /// `iself TEXT`: whether a file begins as ELF files do.
-pub fn is_elf(alloc: Global, field: &str, out: &mut Vec<u8>) -> Result<(), NoAnswer> {
+fn is_elf(alloc: Global, field: &str, out: &mut Vec<u8>) -> Result<(), NoAnswer> {
     let file = bytes_in(alloc, field)?;
     put_shown(out, "", &Image::is_elf(&file))
 }
 
 /// `written WORD`: the file of an image with that entry, of the segment of eight bytes and behind it
 /// one of zeros only, and the image that it is read as.
-pub fn written(alloc: Global, entry: &str, out: &mut Vec<u8>) -> Result<(), NoAnswer> {
+fn written(alloc: Global, entry: &str, out: &mut Vec<u8>) -> Result<(), NoAnswer> {
     let file = file_of(alloc, word_in(entry)?)?;
     for byte in file.as_slice() {
         put_byte(out, *byte)?;
@@ -112,7 +125,7 @@ fn put_segment(segment: &Segment, out: &mut Vec<u8>) -> Result<(), NoAnswer> {
 fn put_bytes(bytes: &[u8], out: &mut Vec<u8>) -> Result<(), NoAnswer> {
     put_shown(out, " bytes ", &bytes.len())?;
     put(out, ":")?;
-    for byte in bytes.iter().take(8) {
+    for byte in &bytes[..bytes.len().min(8)] {
         put_byte(out, *byte)?;
     }
     Ok(())

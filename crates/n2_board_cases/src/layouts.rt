@@ -3,7 +3,6 @@
 ghost use Rattle.std.specs.Prelude.{◌≡◌, IfOk, IfSome, length};
 ghost use Rattle.n2_parts.specs.Valid.{IsValid};
 
-use crate::boards::board_of;
 use crate::shared;
 use n2_board::{Direction, Layout, OpenFault, Place, Route};
 use n2_boardtext::kind_name;
@@ -19,15 +18,7 @@ use std::alloc::Global;
 /// segment, of which KIND is `r`, `x`, `w` or `wx`; the segments hold no bytes. A look-up is `class
 /// LINE ..`, `place ADDRESS ..`, `fetch ADDRESS ..`, or `load CORE WIDTH ADDRESS ..`, `store`, `loadio`
 /// or `storeio`.
-pub fn layout(alloc: Global, rest: &str, out: &mut Vec<u8>) -> Result<(), NoAnswer> {
-    let (text, fields) = rest.split_once('|').ok_or(NoAnswer::NoCase)?;
-    match board_of(alloc, text, out)? {
-        Some(board) => put_layout(alloc, &board, fields, out),
-        None => Ok(()),
-    }
-}
-
-fn put_layout(alloc: Global, board: &Board, fields: &str, out: &mut Vec<u8>) -> Result<(), NoAnswer>
+pub fn layout(alloc: Global, board: &Board, fields: &str, out: &mut Vec<u8>) -> Result<(), NoAnswer>
     requires { IsValid board.now }
 {
     let images = images_in(alloc, fields)?;

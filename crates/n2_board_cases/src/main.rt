@@ -11,7 +11,10 @@ mod layouts;
 mod memories;
 mod watches;
 
-use n2_cases::{Cases, NoAnswer, answer_rows};
+ghost use Rattle.n2_parts.specs.Valid.{IsValid};
+
+use n2_cases::{Cases, NoAnswer, answer_rows, put};
+use n2_parts::Board;
 use std::alloc::Global;
 use std::io;
 
@@ -22,23 +25,60 @@ struct BoardCases;
 
 impl Cases for BoardCases {
     fn answer(&self, alloc: Global, case: &str, out: &mut Vec<u8>) -> Result<(), NoAnswer> {
-        let (kind, rest) = case.split_once(' ').ok_or(NoAnswer::NoCase)?;
+        let (kind, rest) = halves(case, ' ')?;
         match kind {
-            "elf" => images::elf(alloc, rest, out),
-            "raw" => images::raw(alloc, rest, out),
-            "iself" => images::is_elf(alloc, rest, out),
-            "written" => images::written(alloc, rest, out),
-            "board" => boards::board(alloc, rest, out),
-            "parts" => boards::parts(alloc, rest, out),
+            "elf" | "raw" | "iself" | "written" => images::answer(alloc, kind, rest, out),
             "names" => boards::names(out),
-            "layout" => layouts::layout(alloc, rest, out),
-            "devices" => devices::devices(alloc, rest, out),
-            "memory" => memories::memory(alloc, rest, out),
-            "bus" => bus::bus(alloc, rest, out),
             "journal" => journals::journal(alloc, rest, out),
-            "watch" => watches::watch(alloc, rest, out),
-            _ => Err(NoAnswer::NoCase),
+            "board" | "parts" => by_board(alloc, kind, rest, "", out),
+            _ => {
+                let (text, fields) = halves(rest, '|')?;
+                by_board(alloc, kind, text, fields, out)
+            }
         }
+    }
+}
+
+/// What a text has before and behind the first of a character.
+fn halves(text: &str, at: char) -> Result<(&str, &str), NoAnswer> {
+    match text.split_once(at) {
+        Some(halves) => Ok(halves),
+        None => Err(NoAnswer::NoCase),
+    }
+}
+
+/// A case of the board of a text; where that has none, what is wrong with it is the answer.
+fn by_board(
+    alloc: Global,
+    kind: &str,
+    text: &str,
+    fields: &str,
+    out: &mut Vec<u8>,
+) -> Result<(), NoAnswer> {
+    match boards::board_of(alloc, text, out)? {
+        Some(board) => of_board(alloc, kind, &board, fields, out),
+        None => Ok(()),
+    }
+}
+
+fn of_board(
+    alloc: Global,
+    kind: &str,
+    board: &Board,
+    fields: &str,
+    out: &mut Vec<u8>,
+) -> Result<(), NoAnswer>
+    requires { IsValid board.now }
+{
+    match kind {
+        "board" => put(out, "valid"),
+        "parts" => boards::parts(alloc, board, out),
+        "layout" => layouts::layout(alloc, board, fields, out),
+        "devices" => devices::devices(alloc, board, fields, out),
+        "memory" => memories::memory(alloc, board, fields, out),
+        "bus" => bus::bus(alloc, board, fields, out),
+        "watch" => watches::watch(alloc, board, fields, out),
+        _ => Err(NoAnswer::NoCase),
     }
 }
 

@@ -1,11 +1,12 @@
 //! Cases of memories.
 
-ghost use Rattle.std.specs.Prelude.{◌≡◌, IsTrue};
-ghost use Rattle.n2_elf.specs.Reading.{HoldsItsBytes};
+ghost use Rattle.std.specs.Prelude.{◌≡◌, IsTrue, IfOk};
+ghost use Rattle.std.specs.List.{AllByRecursion};
+ghost use Rattle.n2_elf.specs.Reading.{HoldsItsBytes, IsSized};
 ghost use Rattle.n2_memory.specs.Start.{IsInside};
 ghost use Rattle.n2_parts.specs.Valid.{IsValid};
 
-use crate::boards::board_of;
+use crate::halves;
 use n2_cases::{NoAnswer, bytes_in, put, put_shown, put_word, width_in, word_in, words_of};
 use n2_elf::{Image, Segment};
 use n2_memory::Memory;
@@ -18,20 +19,12 @@ use std::alloc::Global;
 /// of a text, with these three segments in them, answer to one step after another. A step is `line
 /// LINE ..`, `read WIDTH ADDRESS`, `word ADDRESS`, `write WIDTH ADDRESS VALUE`, or `put LINE WORD`, which
 /// puts eight words, of which each is the one before and 1.
-pub fn memory(alloc: Global, rest: &str, out: &mut Vec<u8>) -> Result<(), NoAnswer> {
-    let (text, rest) = rest.split_once('|').ok_or(NoAnswer::NoCase)?;
-    match board_of(alloc, text, out)? {
-        Some(board) => put_memory(alloc, &board, rest, out),
-        None => Ok(()),
-    }
-}
-
-fn put_memory(alloc: Global, board: &Board, rest: &str, out: &mut Vec<u8>) -> Result<(), NoAnswer>
+pub fn memory(alloc: Global, board: &Board, rest: &str, out: &mut Vec<u8>) -> Result<(), NoAnswer>
     requires { IsValid board.now }
 {
-    let (first, rest) = rest.split_once('|').ok_or(NoAnswer::NoCase)?;
-    let (second, rest) = rest.split_once('|').ok_or(NoAnswer::NoCase)?;
-    let (third, steps) = rest.split_once('|').ok_or(NoAnswer::NoCase)?;
+    let (first, rest) = halves(rest, '|')?;
+    let (second, rest) = halves(rest, '|')?;
+    let (third, steps) = halves(rest, '|')?;
     let mut memory = opened(alloc, board, [first, second, third])?;
     put_steps(alloc, &mut memory, steps, out)
 }
@@ -40,31 +33,39 @@ fn put_memory(alloc: Global, board: &Board, rest: &str, out: &mut Vec<u8>) -> Re
 fn opened(alloc: Global, board: &Board, fields: [&str; 3]) -> Result<Memory, NoAnswer>
     requires { IsValid board.now }
 {
-    let first = segment_in(alloc, fields[0].trim())?;
-    let second = segment_in(alloc, fields[1].trim())?;
-    let third = segment_in(alloc, fields[2].trim())?;
-    if !fits(board, &first) || !fits(board, &second) || !fits(board, &third) {
-        return Err(NoAnswer::NoCase);
-    }
-    let mut segments = Items::new(alloc);
-    segments.push(first)?;
-    segments.push(second)?;
-    segments.push(third)?;
-    let image = Image { entry: 0, segments };
-    Ok(Memory::open(alloc, board, &[image])?)
+    let first = image_in(alloc, board, fields[0])?;
+    let second = image_in(alloc, board, fields[1])?;
+    let third = image_in(alloc, board, fields[2])?;
+    Ok(Memory::open(alloc, board, &[first, second, third])?)
 }
 
-fn segment_in(alloc: Global, field: &str) -> Result<Segment, NoAnswer> {
-    let (at, rest) = field.split_once(' ').ok_or(NoAnswer::NoCase)?;
-    let (size, text) = rest.split_once(' ').ok_or(NoAnswer::NoCase)?;
-    let (at, size) = (word_in(at)?, word_in(size)?);
-    Ok(Segment {
-        at,
+/// The image of the segment of a field alone.
+fn image_in(alloc: Global, board: &Board, field: &str) -> Result<Image, NoAnswer>
+    ensures { IfOk result (λ image. AllByRecursion (IsInside board.now.memory) image.segments × IsSized image) }
+{
+    let mut segments = Items::new(alloc);
+    segments.push(segment_in(alloc, board, field.trim())?)?;
+    Ok(Image { entry: 0, segments })
+}
+
+/// The segment of a field, which lies in a memory of the board.
+fn segment_in(alloc: Global, board: &Board, field: &str) -> Result<Segment, NoAnswer>
+    ensures { IfOk result (λ s. IsInside board.now.memory s × HoldsItsBytes s) }
+{
+    let (at, rest) = halves(field, ' ')?;
+    let (size, text) = halves(rest, ' ')?;
+    let segment = Segment {
+        at: word_in(at)?,
         bytes: Items::from_vec(bytes_in(alloc, text)?),
-        size,
+        size: word_in(size)?,
         exec: false,
         write: true,
-    })
+    };
+    if fits(board, &segment) {
+        Ok(segment)
+    } else {
+        Err(NoAnswer::NoCase)
+    }
 }
 
 fn fits(board: &Board, s: &Segment) -> bool

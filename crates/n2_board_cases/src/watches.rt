@@ -6,10 +6,9 @@ ghost use Rattle.n2_board.specs.declared.guards.Guard.{Guard};
 ghost use Rattle.n2_watch.specs.Table.{slot_of};
 ghost use Rattle.n2_watch.specs.Watched.{IsGuardOf, IsMapOf};
 
-use crate::boards::board_of;
 use crate::bus::empty;
 use crate::devices::count_in;
-use crate::shared;
+use crate::{halves, shared};
 use n2_board::{Layout, OpenFault};
 use n2_cases::{NoAnswer, put, put_shown, put_word, word_in, words_of};
 use n2_elf::Image;
@@ -37,31 +36,31 @@ struct Step {
 ///
 /// The answer has each refusal with the number of its step, the rule, the address and the number of the
 /// line that it names, and at last how many steps there were.
-pub fn watch(alloc: Global, rest: &str, out: &mut Vec<u8>) -> Result<(), NoAnswer> {
-    let (text, rest) = rest.split_once('|').ok_or(NoAnswer::NoCase)?;
-    let (core, steps) = rest.split_once('|').ok_or(NoAnswer::NoCase)?;
-    match board_of(alloc, text, out)? {
-        Some(board) => put_watched(alloc, &board, count_in(core.trim())?, steps, out),
-        None => Ok(()),
+pub fn watch(alloc: Global, board: &Board, rest: &str, out: &mut Vec<u8>) -> Result<(), NoAnswer>
+    requires { IsValid board.now }
+{
+    let (core, steps) = halves(rest, '|')?;
+    let core = count_in(core.trim())?;
+    if core as usize >= board.core.len() {
+        return Err(NoAnswer::NoCase);
     }
+    put_watched(alloc, board, core, &layout_of(alloc, board)?, steps, out)
 }
 
 fn put_watched(
     alloc: Global,
     board: &Board,
     core: u32,
+    layout: &Layout,
     steps: &str,
     out: &mut Vec<u8>,
 ) -> Result<(), NoAnswer>
-    requires { IsValid board.now }
+    requires valid { IsValid board.now }
+    requires layout { IsMapOf board.now layout.now }
+    requires core { core < length board.now.core }
 {
-    let layout = layout_of(alloc, board)?;
-    if core as usize >= board.core.len() {
-        return Err(NoAnswer::NoCase);
-    }
-    let mut watch = Watch::open(alloc, core, board, &layout)?;
-    shared(&watch);
-    put_steps(alloc, &mut watch, &layout, steps, out)
+    let mut watch = Watch::open(alloc, core, board, layout)?;
+    put_steps(alloc, &mut watch, layout, steps, out)
 }
 
 fn layout_of(alloc: Global, board: &Board) -> Result<Layout, NoAnswer>
@@ -97,6 +96,7 @@ fn put_steps(
     requires clock { watch.old.table.clock ≡ 0 }
     requires slots { (guard : Guard) → IsGuardOf watch.old.board guard → slot_of guard < length watch.old.table.got }
 {
+    shared(watch);
     let mut number = 0;
     'steps: for step in steps.split('|') {
         if number >= STEPS {
@@ -125,22 +125,36 @@ fn put_broken(number: u32, broken: &Broken, out: &mut Vec<u8>) -> Result<(), NoA
 }
 
 fn step_in(words: &[&str]) -> Result<Step, NoAnswer> {
-    match *words {
-        ["fetch", address] => {
-            let address = word_in(address)?;
-            Ok(Step {
-                access: Access::Fetch { address },
-                done: None,
-            })
-        }
-        ["load", address] => Ok(cached(word_in(address)?, false)),
-        ["store", address] => Ok(cached(word_in(address)?, true)),
-        ["read", address] => Ok(received(word_in(address)?, false, 0)),
-        ["read", address, pointer] => Ok(received(word_in(address)?, true, word_in(pointer)?)),
-        ["write", address, value] => Ok(wrote(word_in(address)?, word_in(value)?, true)),
-        ["lost", address, value] => Ok(wrote(word_in(address)?, word_in(value)?, false)),
-        [op, address] => Ok(cleaned(op_in(op)?, word_in(address)?)),
+    match words {
+        [kind, address] => step_at(kind, word_in(address)?),
+        [kind, address, value] => step_with(kind, word_in(address)?, word_in(value)?),
         _ => Err(NoAnswer::NoCase),
+    }
+}
+
+fn step_at(kind: &str, address: u32) -> Result<Step, NoAnswer> {
+    match kind {
+        "fetch" => Ok(fetched(address)),
+        "load" => Ok(cached(address, false)),
+        "store" => Ok(cached(address, true)),
+        "read" => Ok(received(address, false, 0)),
+        _ => Ok(cleaned(op_in(kind)?, address)),
+    }
+}
+
+fn step_with(kind: &str, address: u32, value: u32) -> Result<Step, NoAnswer> {
+    match kind {
+        "read" => Ok(received(address, true, value)),
+        "write" => Ok(wrote(address, value, true)),
+        "lost" => Ok(wrote(address, value, false)),
+        _ => Err(NoAnswer::NoCase),
+    }
+}
+
+fn fetched(address: u32) -> Step {
+    Step {
+        access: Access::Fetch { address },
+        done: None,
     }
 }
 

@@ -134,10 +134,22 @@ fn sink(
     out: &mut Vec<u8>,
 ) -> Result<(), NoAnswer> {
     let mut sink = sink_of(alloc, failing, sizes.trim())?;
-    for text in texts.split('|') {
-        put_to(&mut sink, whole, &bytes_in(alloc, text.trim())?, out)?;
-    }
+    put_texts(alloc, &mut sink, whole, texts, out)?;
     put_bytes(sink.written(), out)
+}
+
+/// Appends what the puts of some texts answer.
+fn put_texts<S: Sink>(
+    alloc: Global,
+    sink: &mut S,
+    whole: bool,
+    texts: &str,
+    out: &mut Vec<u8>,
+) -> Result<(), NoAnswer> {
+    for text in texts.split('|') {
+        put_to(sink, whole, &bytes_in(alloc, text.trim())?, out)?;
+    }
+    Ok(())
 }
 
 fn sink_of(alloc: Global, failing: &str, sizes: &str) -> Result<MemSink, NoAnswer> {
@@ -175,12 +187,11 @@ pub fn put_to_file<R: Files>(
     rest: &str,
     out: &mut Vec<u8>,
 ) -> Result<(), NoAnswer> {
-    let (first, texts) = rest.split_once('|').ok_or(NoAnswer::NoCase)?;
+    let Some((first, texts)) = rest.split_once('|') else {
+        return Err(NoAnswer::NoCase);
+    };
     let name = if first.trim() == "." { "." } else { "put.txt" };
-    let mut sink = FileSink::new(rt, name);
-    for text in texts.split('|') {
-        put_to(&mut sink, false, &bytes_in(alloc, text.trim())?, out)?;
-    }
+    put_texts(alloc, &mut FileSink::new(rt, name), false, texts, out)?;
     put_fetched(alloc, &mut DirFolder::new(rt), name, 64, out)
 }
 

@@ -159,11 +159,17 @@ fn put_acts(words: &[&str], out: &mut Vec<u8>) -> Result<(), NoAnswer> {
     };
     let before = regs_in(&words[..at])?;
     let mut regs = before;
-    for word in &words[at + 1..] {
-        put_shown(out, "", &act_word(&mut regs, word_in(word)?))?;
+    all_acted(&mut regs, &words[at + 1..], out)?;
+    put_changes(&before, &regs, out)
+}
+
+/// Appends what one word after another leaves to do.
+fn all_acted(regs: &mut Regs, words: &[&str], out: &mut Vec<u8>) -> Result<(), NoAnswer> {
+    for word in words {
+        put_shown(out, "", &act_word(regs, word_in(word)?))?;
         put(out, " ")?;
     }
-    put_changes(&before, &regs, out)
+    Ok(())
 }
 
 fn put_loaded(words: &[&str], out: &mut Vec<u8>) -> Result<(), NoAnswer> {
@@ -205,13 +211,18 @@ fn put_changes(old: &Regs, new: &Regs, out: &mut Vec<u8>) -> Result<(), NoAnswer
     for n in 0..32 {
         put_change_of(n, old.gpr[n], new.gpr[n], out)?;
     }
-    put_change(" status ", old.status, new.status, out)?;
-    put_change(" estatus ", old.estatus, new.estatus, out)?;
-    put_change(" bstatus ", old.bstatus, new.bstatus, out)?;
-    put_change(" ienable ", old.ienable, new.ienable, out)?;
-    put_change(" latch ", old.latch, new.latch, out)?;
-    put_change(" cpuid ", old.cpuid, new.cpuid, out)?;
-    put_change(" vector ", old.vector, new.vector, out)
+    for (name, before, after) in [
+        (" status ", old.status, new.status),
+        (" estatus ", old.estatus, new.estatus),
+        (" bstatus ", old.bstatus, new.bstatus),
+        (" ienable ", old.ienable, new.ienable),
+        (" latch ", old.latch, new.latch),
+        (" cpuid ", old.cpuid, new.cpuid),
+        (" vector ", old.vector, new.vector),
+    ] {
+        put_change(name, before, after, out)?;
+    }
+    Ok(())
 }
 
 fn put_change_of(n: usize, before: u32, after: u32, out: &mut Vec<u8>) -> Result<(), NoAnswer> {

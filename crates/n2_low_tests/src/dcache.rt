@@ -66,21 +66,58 @@ fn crosses<T: Send + Sync>(_value: &T) {}
 fn keeps_one_line_a_set(rt: HostRuntime) -> Result<(), Fail> {
     let mut cache = opened_at(&rt, rt.alloc(), unseen(512))?;
     crosses(&cache);
-    assert_eq!(rt; cache.sets(), 16);
-    assert_eq!(rt; held_at(&rt, &cache, 3), None);
+    assert_eq!(rt; (cache.sets(), held_at(&rt, &cache, 3)), (16, None));
     put(&rt, &mut cache, 3, &[7; 8]);
-    assert!(rt; cache.has(3) && !cache.has(19) && !cache.has(4));
+    assert_eq!(rt;
+        [cache.has(3), cache.has(19), cache.has(4)],
+        [true, false, false]
+    );
     put(&rt, &mut cache, 19, &COUNTED);
-    assert!(rt; cache.has(19) && !cache.has(3));
+    assert_eq!(rt; [cache.has(19), cache.has(3)], [true, false]);
+    Ok(())
+}
+
+#[test]
+fn finds_what_it_holds(rt: HostRuntime) -> Result<(), Fail> {
+    let mut cache = opened_at(&rt, rt.alloc(), unseen(512))?;
+    put(&rt, &mut cache, 19, &COUNTED);
+    let held = Held {
+        line: 19,
+        words: COUNTED,
+        dirty: false,
+    };
     assert_eq!(rt; cache.find(3), None);
-    assert!(rt; cache.find(19).is_some_and(|held| held.words == COUNTED));
+    assert_eq!(rt; cache.find(19), Some(&held));
+    Ok(())
+}
+
+#[test]
+fn stores_a_half(rt: HostRuntime) -> Result<(), Fail> {
+    let mut cache = opened_at(&rt, rt.alloc(), unseen(512))?;
+    put(&rt, &mut cache, 19, &COUNTED);
     write(&rt, &mut cache, 0x26e, Width::Half, 0xffff_beef);
     assert_eq!(rt; read(&rt, &cache, 0x26c, Width::Word), 0xbeef_0e0d);
-    assert!(rt; dirty_at(&rt, &cache, 3) && !dirty_at(&rt, &cache, 4));
+    assert_eq!(rt;
+        [dirty_at(&rt, &cache, 3), dirty_at(&rt, &cache, 4)],
+        [true, false]
+    );
+    Ok(())
+}
+
+#[test]
+fn drops_lines(rt: HostRuntime) -> Result<(), Fail> {
+    let mut cache = opened_at(&rt, rt.alloc(), unseen(512))?;
+    put(&rt, &mut cache, 19, &COUNTED);
     cache.drop_line(3);
     assert!(rt; cache.has(19));
     cache.drop_line(19);
     assert_eq!(rt; held_at(&rt, &cache, 3), None);
+    Ok(())
+}
+
+#[test]
+fn drops_sets(rt: HostRuntime) -> Result<(), Fail> {
+    let mut cache = opened_at(&rt, rt.alloc(), unseen(512))?;
     put(&rt, &mut cache, 3, &COUNTED);
     empty(&rt, &mut cache, 4);
     assert!(rt; cache.has(3));
@@ -93,12 +130,22 @@ fn keeps_one_line_a_set(rt: HostRuntime) -> Result<(), Fail> {
 fn looks_once(rt: HostRuntime) -> Result<(), Fail> {
     // The line of the highest number, in the largest cache.
     let mut cache = opened_at(&rt, rt.alloc(), unseen(65536))?;
-    assert_eq!(rt; cache.try_load(0x7fff_fffc, Width::Word), None);
-    assert!(rt; !cache.try_store(0x7fff_fffc, Width::Word, 9));
+    assert_eq!(rt;
+        (
+            cache.try_load(0x7fff_fffc, Width::Word),
+            cache.try_store(0x7fff_fffc, Width::Word, 9)
+        ),
+        (None, false)
+    );
     put(&rt, &mut cache, 0x3ff_ffff, &COUNTED);
-    assert_eq!(rt; cache.try_load(0x7fff_fffc, Width::Word), Some(0x201f_1e1d));
-    assert!(rt; cache.try_store(0xffff_fffd, Width::Byte, 0xa5));
-    assert_eq!(rt; cache.try_load(0x7fff_fffc, Width::Half), Some(0xa51d));
+    assert_eq!(rt;
+        (
+            cache.try_load(0x7fff_fffc, Width::Word),
+            cache.try_store(0xffff_fffd, Width::Byte, 0xa5),
+            cache.try_load(0x7fff_fffc, Width::Half)
+        ),
+        (Some(0x201f_1e1d), true, Some(0xa51d))
+    );
     let mut words = COUNTED;
     words[7] = 0x201f_a51d;
     let held = Held {

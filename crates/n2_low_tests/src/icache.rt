@@ -28,15 +28,21 @@ fn crosses<T: Send + Sync>(_value: &T) {}
 fn keeps_one_line_a_set(rt: HostRuntime) -> Result<(), Fail> {
     let mut cache = opened_at(&rt, rt.alloc(), unseen(512))?;
     crosses(&cache);
-    assert_eq!(rt; cache.sets(), 16);
-    assert_eq!(rt; cache.find(0x60), None);
+    assert_eq!(rt; (cache.sets(), cache.find(0x60)), (16, None));
     cache.fill(3, &[7; 8]);
-    assert_eq!(rt; cache.find(0x60), Some(7));
-    assert_eq!(rt; cache.find(0x260), None);
-    assert_eq!(rt; cache.find(0x80), None);
+    assert_eq!(rt;
+        [cache.find(0x60), cache.find(0x260), cache.find(0x80)],
+        [Some(7), None, None]
+    );
     cache.fill(19, &WORDS);
-    assert_eq!(rt; cache.find(0x264), Some(21));
-    assert_eq!(rt; cache.find(0x64), None);
+    assert_eq!(rt; [cache.find(0x264), cache.find(0x64)], [Some(21), None]);
+    Ok(())
+}
+
+#[test]
+fn drops_sets(rt: HostRuntime) -> Result<(), Fail> {
+    let mut cache = opened_at(&rt, rt.alloc(), unseen(512))?;
+    cache.fill(19, &WORDS);
     empty(&rt, &mut cache, 4);
     assert_eq!(rt; cache.find(0x264), Some(21));
     empty(&rt, &mut cache, 3);
@@ -49,8 +55,13 @@ fn finds_words_of_the_highest_line(rt: HostRuntime) -> Result<(), Fail> {
     let mut cache = opened_at(&rt, rt.alloc(), unseen(65536))?;
     assert_eq!(rt; cache.sets(), 2048);
     cache.fill(0x3ff_ffff, &WORDS);
-    assert_eq!(rt; cache.find(0x7fff_ffe0), Some(10));
-    assert_eq!(rt; cache.find(0xffff_ffff), Some(87));
-    assert_eq!(rt; cache.find(0x1fff_ffe0), None);
+    assert_eq!(rt;
+        [
+            cache.find(0x7fff_ffe0),
+            cache.find(0xffff_ffff),
+            cache.find(0x1fff_ffe0)
+        ],
+        [Some(10), Some(87), None]
+    );
     Ok(())
 }

@@ -48,8 +48,9 @@ fn keeps_entries_and_tails(rt: HostRuntime) -> Result<(), Fail> {
     journal.add(written(2, 0x68));
     journal.add(written(1, 0x69));
     journal.set_tail(0, 1);
-    assert_eq!(rt; journal.limit(), 3);
-    assert_eq!(rt; journal.entries().len(), 3);
-    assert_eq!(rt; journal.tails(), [1].as_slice());
+    assert_eq!(rt;
+        (journal.limit(), journal.entries().len(), journal.tails()),
+        (3, 3, [1].as_slice())
+    );
     Ok(())
 }

@@ -7,8 +7,7 @@ fn crosses<T: Drop + Send + Sync>(value: T) {
 #[test]
 fn taken_refused_given_back(rt: HostRuntime) {
     let mut mutex = HwMutex::new();
-    assert_eq!(rt; mutex.read(0), 0);
-    assert_eq!(rt; mutex.read(1), 1);
+    assert_eq!(rt; (mutex.read(0), mutex.read(1)), (0, 1));
     for (offset, value, takes, held, reset) in [
         (0, 0x0001_0005, true, 0x0001_0005, 1),
         (0, 0x0002_0005, false, 0x0001_0005, 1),
@@ -21,12 +20,10 @@ fn taken_refused_given_back(rt: HostRuntime) {
         (0, 0xffff_8000, true, 0xffff_8000, 0),
     ] {
         assert_eq!(rt;
-            mutex.write(offset, value),
-            takes,
+            (mutex.write(offset, value), mutex.read(0), mutex.read(1)),
+            (takes, held, reset),
             "writing {value:x} at {offset}"
         );
-        assert_eq!(rt; mutex.read(0), held, "after {value:x} at {offset}");
-        assert_eq!(rt; mutex.read(1), reset, "after {value:x} at {offset}");
     }
     crosses(mutex);
 }

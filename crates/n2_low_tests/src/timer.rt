@@ -66,7 +66,10 @@ fn each_register(rt: HostRuntime) {
         assert!(rt; offset < 6);
         timer.write(offset, value);
         timer.ticks(ticks);
-        assert_eq!(rt; registers(&timer), want, "writing {value:x} at {offset}");
-        assert_eq!(rt; timer.line(), line, "writing {value:x} at {offset}");
+        assert_eq!(rt;
+            (registers(&timer), timer.line()),
+            (want, line),
+            "writing {value:x} at {offset}"
+        );
     }
 }
